@@ -1,5 +1,5 @@
-//! Sources assembled with and without a listing, which comes to the same, and each law once. What sources come to, the worked
-//! rows of `doc_tests` show.
+//! Sources assembled with and without a listing, which comes to the same, and each law once. What sources come to, the
+//! worked rows of `doc_tests` show.
 
 use crate::programs::{ELIDED, WORKED};
 use ia_asm::{assemble, assemble_image};

@@ -1,5 +1,5 @@
-//! Tests of the assembler and of the laws of printed text, by public calls: what no row of `doc_tests` shows of sources, and
-//! instructions that are printed and read back.
+//! Tests of the assembler and of the laws of printed text, by public calls: what no row of `doc_tests` shows of
+//! sources, and instructions that are printed and read back.
 //!
 //! It promises nothing; it stands on the crates that it tries. `tests-data/nasm_table` makes the lines that nasm has
 //! assembled too.

@@ -1,4 +1,5 @@
-//! What a source gives where one thing alone is asked for, and a source whose entries are gone over in more than one part.
+//! What a source gives where one thing alone is asked for, and a source whose entries are gone over in more than one
+//! part.
 
 use crate::programs::{ELIDED, WORKED};
 use ia_asm::{assemble, assemble_code, assemble_listing};

@@ -35,8 +35,8 @@ fn agree(alloc: Global, board: &Board, other: &Board) -> Result<bool, Fail> {
     }
 }
 
-// Of two boards of this code, one after so many steps of its only core, and one with these entries before its first step:
-// whether each agrees with its own history, and with the other's only if it is to.
+// Of two boards of this code, one after so many steps of its only core, and one with these entries before its first
+// step: whether each agrees with its own history, and with the other's only if it is to.
 fn is_so(
     alloc: Global,
     code: &[u8],

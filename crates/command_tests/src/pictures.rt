@@ -34,7 +34,8 @@ fn count_of(text: &str, word: &str) -> usize {
     text.split(word).count().saturating_sub(1)
 }
 
-// Two cores: core 0 is hit by core 1 on line 6, and aborts; then it commits. Core 1 opens a transaction that does not end.
+// Two cores: core 0 is hit by core 1 on line 6, and aborts; then it commits. Core 1 opens a transaction that does not
+// end.
 fn told(alloc: Global, window: Window) -> Result<Timeline, AllocError> {
     let mut timeline = Timeline::new(alloc, 2, window)?;
     timeline.told(0, Outcome::Begun)?;

@@ -65,8 +65,9 @@ fn named(symbols: &[Symbol], word: &[u8]) -> Option<u64>
     }
 }
 
-/// The address that a word writes: that of a number, else of the first symbol of this name, else of a symbol with a number behind
-/// its last sign. `None` where it writes none of these. What lies below 0 or above `u64::MAX` is told as `u64::MAX`.
+/// The address that a word writes: that of a number, else of the first symbol of this name, else of a symbol with a
+/// number behind its last sign. `None` where it writes none of these. What lies below 0 or above `u64::MAX` is told as
+/// `u64::MAX`.
 pub fn read_address(symbols: &[Symbol], word: &[u8]) -> Option<u64>
     ensures { result ≡ address_in symbols.now word.now }
 {

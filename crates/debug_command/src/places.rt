@@ -6,7 +6,8 @@ ghost use Rattle.debug_command.specs.declared.symbol.Symbol.{Symbol};
 ghost use Rattle.arrayvec.specs.ArrayVec.{array_vec_len};
 ghost use Rattle.ia_text.specs.Listing.{shown_bytes};
 ghost use Rattle.text_out.specs.Writing.{Writes};
-ghost use Rattle.debug_command.specs.Places.{distance_text, label_near, label_text, labelled_line, name_line, names_text, nearest};
+ghost use Rattle.debug_command.specs.Places.{distance_text, label_near, label_text, labelled_line, name_line};
+ghost use Rattle.debug_command.specs.Places.{names_text, nearest};
 ghost use Rattle.debug_command.specs.Places.{place_text};
 
 use crate::symbol::Symbol;
@@ -63,7 +64,8 @@ fn write_label<O: Out>(label: &Symbol, address: u32, out: &mut O) -> Result<(), 
     write_name(label.name.as_slice(), back.as_slice(), out)
 }
 
-/// Writes the label at an address, or the nearest below with the distance, as ` <loop+0x4>`; nothing where there is none.
+/// Writes the label at an address, or the nearest below with the distance, as ` <loop+0x4>`; nothing where there is
+/// none.
 pub fn write_place<O: Out>(labels: &[Symbol], address: u32, out: &mut O) -> Result<(), WriteFault>
     ensures { Writes (O.device out.old) (O.device out.new) (place_text labels.now address) result }
 {
@@ -98,7 +100,8 @@ pub fn write_names<O: Out>(labels: &[Symbol], at: u32, out: &mut O) -> Result<()
     Ok(())
 }
 
-/// Writes a listing line, with the names of the labels above it, and tells how many bytes it shows. Of no code it writes no name.
+/// Writes a listing line, with the names of the labels above it, and tells how many bytes it shows. Of no code it
+/// writes no name.
 pub fn write_labelled<O: Out>(
     labels: &[Symbol],
     code: &[u8],

@@ -3,7 +3,8 @@
 ghost use Rattle.std.specs.Prelude.{◌≡◌, ◌++◌};
 ghost use Rattle.arrayvec.specs.ArrayVec.{array_vec_len};
 ghost use Rattle.text_out.specs.Writing.{Writes};
-ghost use Rattle.debug_command.specs.Refusals.{arguments_line, cores_line, plain_line, range_line, refusal_code, refusal_line};
+ghost use Rattle.debug_command.specs.Refusals.{arguments_line, cores_line, plain_line, range_line, refusal_code};
+ghost use Rattle.debug_command.specs.Refusals.{refusal_line};
 ghost use Rattle.debug_command.specs.Refusals.{spoken_line};
 
 use crate::command::CommandName;

@@ -40,14 +40,14 @@ const AT_PLAIN_TERMINAL: &str = "at a terminal";
 
 const AT_TERMINAL: &str = "at a terminal in colours";
 
-/// Whether the lines below a command say just this status, standard output and standard error. `before` is what the row's
-/// command before printed.
+/// Whether the lines below a command say just this status, standard output and standard error. `before` is what the
+/// row's command before printed.
 pub fn is_wanted(lines: &[&str], told: Told<'_>, before: &str) -> bool {
     is_status(lines, told.status) && is_output(lines, told.out, before) && is_error(lines, told.err)
 }
 
-/// How many bytes the input gives and the outputs take: those of the lines `gives N`, `takes N` and `hears N`, or all. A line
-/// `at a terminal`, or `at a terminal in colours`, says that they are a terminal's.
+/// How many bytes the input gives and the outputs take: those of the lines `gives N`, `takes N` and `hears N`, or all.
+/// A line `at a terminal`, or `at a terminal in colours`, says that they are a terminal's.
 pub fn room_of(lines: &[&str]) -> Room {
     Room {
         input: number_behind(lines, "gives "),
@@ -173,7 +173,8 @@ fn behind_all<'s>(count: usize, line: &str, text: &'s str) -> Option<&'s str> {
     Some(left)
 }
 
-// What is left behind a line; one that ends in ` ...` is one that begins so, and one that ends in a backslash goes on in the next.
+// What is left behind a line; one that ends in ` ...` is one that begins so, and one that ends in a backslash goes on
+// in the next.
 fn behind_one<'s>(line: &str, text: &'s str) -> Option<&'s str> {
     if let Some(piece) = line.strip_suffix('\\') {
         return text.strip_prefix(piece);

@@ -1,9 +1,10 @@
-//! Runs each `elide` command that the documents and the table of worked rows show, and tells where it comes to something
-//! else than they say.
+//! Runs each `elide` command that the documents and the table of worked rows show, and tells where it comes to
+//! something else than they say.
 //!
-//! A document's commands are the lines `$ ./elide ..` and `$ cat ..` of its code blocks. What has to be printed stands below
-//! a command, up to the next one or the block's end; a line `...` there stands for any lines. The table, `rows.txt`, says
-//! its form at its head; its commands run over files in memory, and status, standard output and standard error are compared.
+//! A document's commands are the lines `$ ./elide ..` and `$ cat ..` of its code blocks. What has to be printed stands
+//! below a command, up to the next one or the block's end; a line `...` there stands for any lines. The table,
+//! `rows.txt`, says its form at its head; its commands run over files in memory, and status, standard output and
+//! standard error are compared.
 //!
 //! Promises no more than safety: it is a test. Stands on `elide_trial`, whose commands it runs, and on `doc_lines`.
 #![tactic(auto)]
@@ -25,8 +26,8 @@ use std::sync::Wait;
 use std::thread::Threads;
 use std::{fs, io};
 
-/// The documents whose commands are run, in this order, so that a later one may read what an earlier one wrote. The last is
-/// there for the tests alone.
+/// The documents whose commands are run, in this order, so that a later one may read what an earlier one wrote. The
+/// last is there for the tests alone.
 const DOCUMENTS: [&str; 4] = [
     "docs/TUTORIAL.md",
     "docs/FAULTS.md",

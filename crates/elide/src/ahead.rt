@@ -11,8 +11,8 @@ use std::io::Read;
 // How many bytes are read ahead.
 const ROOM: usize = 4096;
 
-/// A reader with a row of fixed room in front of it, so that a byte costs neither a system call nor memory. What the reader has
-/// is handed on before more of it is awaited.
+/// A reader with a row of fixed room in front of it, so that a byte costs neither a system call nor memory. What the
+/// reader has is handed on before more of it is awaited.
 #[derive(Drop)]
 pub struct ReadAhead<R> {
     reader: R,

@@ -52,8 +52,8 @@ impl NotWords {
     }
 }
 
-/// The program's arguments, without its name, which is the first. Their bytes go to a row, or where that has no room for them into
-/// memory, since a stack may be small.
+/// The program's arguments, without its name, which is the first. Their bytes go to a row, or where that has no room
+/// for them into memory, since a stack may be small.
 pub fn read_words<'a, E: Env>(
     env: &E,
     usual: &'a mut [u8],

@@ -22,7 +22,8 @@ const CLEAR: &[u8] = b"\r\x1b[K";
 // The longest line has some 100 bytes.
 type Line = ArrayString<160>;
 
-/// A line of a terminal, written anew while work goes on, and gone at its end. Where there is no terminal nothing is written.
+/// A line of a terminal, written anew while work goes on, and gone at its end. Where there is no terminal nothing is
+/// written.
 #[derive(Drop)]
 pub struct ProgressLine<'a, C, E> {
     clock: &'a C,

@@ -25,9 +25,9 @@ use text_out::Out;
 use tm_core::{MachineFault, RunFault};
 use tm_hist::{BoardFault, StepFault};
 
-/// Writes where the fault of a command stands and what is meant, for a person at a terminal. FILE and a schedule's file are read
-/// again. Nothing is written where there is nothing to add, and it ends where no memory is left or the device fails. Painted
-/// or not, the text is the same.
+/// Writes where the fault of a command stands and what is meant, for a person at a terminal. FILE and a schedule's file
+/// are read again. Nothing is written where there is nothing to add, and it ends where no memory is left or the device
+/// fails. Painted or not, the text is the same.
 pub fn advise<P: Paths, O: Out>(
     alloc: Global,
     subcommand: &Subcommand<'_>,

@@ -61,8 +61,8 @@ fn named<'s, 'a>(
     }
 }
 
-/// Writes which words of `--check` or `--forbid` cannot be read, where they stand, and what is wanted there; or what else is
-/// wrong with them. FILE is read again.
+/// Writes which words of `--check` or `--forbid` cannot be read, where they stand, and what is wanted there; or what
+/// else is wrong with them. FILE is read again.
 pub fn advise_condition<P: Paths, O: Out>(
     alloc: Global,
     asked: Asked<'_, '_>,

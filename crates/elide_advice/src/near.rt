@@ -3,7 +3,8 @@
 //! Both go byte by byte, a call for each, so that who asks bounds the length of a name before: `symbols` does. A word
 //! is near to itself, too.
 
-/// Whether one edit leads from a word to a name, in any case: a character more, one less, another one, or two that are swapped.
+/// Whether one edit leads from a word to a name, in any case: a character more, one less, another one, or two that are
+/// swapped.
 pub fn is_near(word: &[u8], name: &[u8]) -> bool {
     let (word, name) = behind_front(word, name);
     let (word, name) = before_back(word, name);

@@ -11,7 +11,8 @@ use std::fmt;
 use std::fmt::Write;
 use text_out::Out;
 
-/// Writes which value of an option asks for memory or a core that is not there. Of several values the fault does not tell which.
+/// Writes which value of an option asks for memory or a core that is not there. Of several values the fault does not
+/// tell which.
 pub fn advise_range<O: Out>(subcommand: &Subcommand<'_>, page: &mut Page<'_, O>) -> fmt::Result {
     let (Some(machine), Some((name, value))) = (machine_of(subcommand), only_asked(subcommand))
     else {

@@ -19,9 +19,9 @@ use text_out::Out;
 /// Names that are longer are near none.
 const MOST: usize = 64;
 
-/// Writes the first word of an option's values that is no symbol of FILE, where it takes symbols, and the first symbol that
-/// is near. False, and nothing is written, where there is none: also of image text, which has no symbols, and where FILE
-/// is not read as a program now.
+/// Writes the first word of an option's values that is no symbol of FILE, where it takes symbols, and the first symbol
+/// that is near. False, and nothing is written, where there is none: also of image text, which has no symbols, and
+/// where FILE is not read as a program now.
 pub fn advise_symbol<P: Paths, O: Out>(
     alloc: Global,
     subcommand: &Subcommand<'_>,

@@ -1,8 +1,8 @@
 //! The command line of `elide`: words to plain subcommands.
 //!
-//! That each option of a subcommand is the value that `clap` found under its name is proved where they are taken; which words are
-//! taken, and each text of help and refusal, are compared by `doc_tests`. Alone in this repository it stands on `clap`, and no type
-//! of `clap` leaves it. Stands on `text_out` for the devices that texts go to.
+//! That each option of a subcommand is the value that `clap` found under its name is proved where they are taken; which
+//! words are taken, and each text of help and refusal, are compared by `doc_tests`. Alone in this repository it stands
+//! on `clap`, and no type of `clap` leaves it. Stands on `text_out` for the devices that texts go to.
 #![tactic(auto)]
 
 mod hunt_options;

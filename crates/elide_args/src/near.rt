@@ -7,8 +7,8 @@ use strsim::{jaro, osa_distance};
 // Names that are more alike than this by Jaro's measure are suggested by clap itself.
 const SUGGESTED: f64 = 0.7;
 
-/// The first subcommand to whose name one edit leads from a word, as `run` from `rnu`: a character more, one less, another
-/// one, or two that are swapped. None where clap suggests a name itself.
+/// The first subcommand to whose name one edit leads from a word, as `run` from `rnu`: a character more, one less,
+/// another one, or two that are swapped. None where clap suggests a name itself.
 pub fn near_subcommand(alloc: Global, word: &str) -> Result<Option<&'static str>, AllocError> {
     if is_suggested(alloc, word)? {
         return Ok(None);

@@ -35,8 +35,8 @@ pub enum NotASubcommand {
     NotWritten,
 }
 
-/// What the arguments ask for, given without the program's name. Where they make no subcommand, the text that they ask for is
-/// written on `out`, and one that refuses them on `err`.
+/// What the arguments ask for, given without the program's name. Where they make no subcommand, the text that they ask
+/// for is written on `out`, and one that refuses them on `err`.
 pub fn command_line_of<'a, O: Out, E: Out>(
     alloc: Global,
     words: &'a [&'a str],

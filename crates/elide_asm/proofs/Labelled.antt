@@ -1,5 +1,7 @@
 -- Labels by their addresses.
-use Rattle.std.proofs.Common.{◌≡◌, ℕ, ◌+◌, ◌-◌, ◌<◌, ◌≤◌, Bool, true, false, eqb, ltb, leb, List, [], ◌∷◌, ◌++◌, refl, sym, ap, ◌∙◌, arith, suc, subst, length, take, drop, get_or, length-take, length-drop, append-nil, ltb-true, leb-false}
+use Rattle.std.proofs.Common.{◌≡◌, ℕ, ◌+◌, ◌-◌, ◌<◌, ◌≤◌, Bool, true, false, eqb, ltb, leb, List, [], ◌∷◌, ◌++◌, refl}
+use Rattle.std.proofs.Common.{sym, ap, ◌∙◌, arith, suc, subst, length, take, drop, get_or, length-take, length-drop}
+use Rattle.std.proofs.Common.{append-nil, ltb-true, leb-false}
 use Rattle.std.specs.List.{All, AllWithin, filter, flat_map}
 use Rattle.std.proofs.lemmas.Bool.Decides.{nat_tests}
 use Rattle.std.proofs.lemmas.List.{get_or-take, get_or-drop, take-append-drop, take_more}
@@ -16,7 +18,8 @@ filter_none p (x ∷ xs) h = rw (h 0 x (omega arith)) (filter_none p xs (λ k d 
 
 filter_all : {X : Type 0} (p : X → Bool) (xs : List X) → All (λ x. p x ≡ true) xs → filter p xs ≡ xs
 filter_all p [] h = refl
-filter_all p (x ∷ xs) h = rw (h 0 x (omega arith)) (ap (λ l. x ∷ l) (filter_all p xs (λ k d q. h (suc k) d (omega arith))))
+filter_all p (x ∷ xs) h =
+    rw (h 0 x (omega arith)) (ap (λ l. x ∷ l) (filter_all p xs (λ k d q. h (suc k) d (omega arith))))
 
 -- those between two places pass it, and no others do
 pub filter_between : {X : Type 0} (p : X → Bool) (xs : List X) (first end : ℕ) → first ≤ end → end ≤ length xs
@@ -41,7 +44,8 @@ filter_between p xs first end ordered within below between above =
     sym (
     ap (filter p) (sym (take-append-drop first xs)) ∙ filter-append p (take first xs) (drop first xs)
     ∙ ap (λ l. l ++ filter p (drop first xs)) front
-    ∙ ap (filter p) (sym (take-append-drop n (drop first xs))) ∙ filter-append p (take n (drop first xs)) (drop n (drop first xs))
+    ∙ ap (filter p) (sym (take-append-drop n (drop first xs)))
+    ∙ filter-append p (take n (drop first xs)) (drop n (drop first xs))
     ∙ ap (λ l. l ++ filter p (drop n (drop first xs))) middle
     ∙ ap (λ l. take n (drop first xs) ++ l) back
     ∙ append-nil (take n (drop first xs))
@@ -84,7 +88,8 @@ between_places n xs at first end ordered within below from_first to_end above =
 -- ---- lines one behind the other
 
 -- the line of the next label
-pub wrote_more : {X : Type 0} (f : X → List ℕ) (xs : List X) (i : ℕ) (x : X) {a b c : Device} → i < length xs → x ≡ get_or xs i x
+pub wrote_more : {X : Type 0} (f : X → List ℕ) (xs : List X) (i : ℕ) (x : X) {a b c : Device} → i < length xs
+    → x ≡ get_or xs i x
     → Wrote a b (flat_map f (take i xs)) → Wrote b c (f x) → Wrote a c (flat_map f (take (i + 1) xs))
 wrote_more f xs i x {a} {b} {c} inside is done next =
     let parts : flat_map f (take i xs) ++ f x ≡ flat_map f (take (i + 1) xs) =

@@ -1,5 +1,7 @@
 -- The lines of a listing with labels, one behind the other.
-use Rattle.std.proofs.Common.{◌≡◌, ℕ, ◌+◌, ◌-◌, ◌<◌, ◌≤◌, Bool, true, false, leb, if◌then◌else◌, List, ◌++◌, Option, Some, None, refl, sym, arith, subst, length, take, drop, length-drop, length-take, leb-true, unwrap_or}
+use Rattle.std.proofs.Common.{◌≡◌, ℕ, ◌+◌, ◌-◌, ◌<◌, ◌≤◌, Bool, true, false, leb, if◌then◌else◌, List, ◌++◌, Option}
+use Rattle.std.proofs.Common.{Some, None, refl, sym, arith, subst, length, take, drop, length-drop, length-take}
+use Rattle.std.proofs.Common.{leb-true, unwrap_or}
 use Rattle.ia_foreign.specs.Length.{foreign_length, length_by_maps, within}
 use Rattle.text_out.proofs.Writing.{rest_is}
 use Rattle.elide_asm.specs.Labelled.{IsLine, IsListed, address_of, foreign_bytes, mark_lines, marks_at}
@@ -38,7 +40,8 @@ pub place_inside : (code : List ℕ) (place shown next : ℕ) → place < length
 place_inside code place shown next inside within same =
     omega (arith, length-take (length code - place) (drop place code), length-drop place code)
 
-pub listed_more : (marks : List Mark) (code : List ℕ) (base place at count next : ℕ) (text shown : List ℕ) → place ≤ length code
+pub listed_more : (marks : List Mark) (code : List ℕ) (base place at count next : ℕ) (text shown : List ℕ)
+    → place ≤ length code
     → at ≡ address_of base place → next ≡ count → IsListed marks code base place text
     → IsLine marks (take (length code - place) (drop place code)) at count shown
     → IsListed marks code base (place + next) (text ++ (mark_lines (marks_at marks at) ++ shown))
@@ -46,6 +49,8 @@ listed_more marks code base place at count next text shown inside here same befo
     let there : IsLine marks (drop place code) (address_of base place) count shown =
     subst (λ (a : ℕ). IsLine marks (drop place code) a count shown) here
     (subst (λ (rest : List ℕ). IsLine marks rest at count shown) (rest_is code place inside) entry) in
-    subst (λ (a : ℕ). IsListed marks code base (place + next) (text ++ (mark_lines (marks_at marks a) ++ shown))) (sym here)
-    (subst (λ (n : ℕ). IsListed marks code base (place + n) (text ++ (mark_lines (marks_at marks (address_of base place)) ++ shown))) (sym same)
+    subst (λ (a : ℕ). IsListed marks code base (place + next) (text ++ (mark_lines (marks_at marks a) ++ shown)))
+    (sym here)
+    (subst (λ (n : ℕ). IsListed marks code base (place + n)
+    (text ++ (mark_lines (marks_at marks (address_of base place)) ++ shown))) (sym same)
     (IsListed.line place count text shown before there))

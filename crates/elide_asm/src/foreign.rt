@@ -31,8 +31,8 @@ pub fn outcome_text(code: &[u8]) -> &'static [u8]
     }
 }
 
-/// Writes the line of an instruction that is none of the subset, by its bytes, with what it is, where that is known, and
-/// what comes of it.
+/// Writes the line of an instruction that is none of the subset, by its bytes, with what it is, where that is known,
+/// and what comes of it.
 ///
 /// [`WriteFault::Write`], where the device failed: a beginning of the line was written.
 #[tactic(auto, unfolding(crate::specs::Labelled::foreign_line))]

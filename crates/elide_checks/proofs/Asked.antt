@@ -30,15 +30,19 @@ ends_by_names text file demands forbids names checks same are =
     subst (λ (constants : List ℕ → Bool). AreEndChecksBy file constants demands forbids checks) each are
 
 -- and so where one is none
-pub none_by_names : (text : List ℕ) (file : ProgramFile) (demands forbids : List (Bor (List ℕ))) (names : List Name) (why : Refusal) →
+pub none_by_names : (text : List ℕ) (file : ProgramFile) (demands forbids : List (Bor (List ℕ))) (names : List Name)
+    (why : Refusal) →
     ((name : List ℕ) → is_among names name ≡ is_constant text file name) →
-    AreMisreadTexts (IsNoEndCondition file (is_among names)) demands forbids why → AreNoChecks text file demands forbids why
+    AreMisreadTexts (IsNoEndCondition file (is_among names)) demands forbids why
+    → AreNoChecks text file demands forbids why
 none_by_names text file demands forbids names why same none =
     let each : is_among names ≡ is_constant text file = λ i name. same name i in
-    subst (λ (constants : List ℕ → Bool). AreMisreadTexts (IsNoEndCondition file constants) demands forbids why) each none
+    subst (λ (constants : List ℕ → Bool). AreMisreadTexts (IsNoEndCondition file constants) demands forbids why) each
+    none
 
 -- four parts one behind the other
-pub joined : (none one two three four : List Check) (a b c : List Check) → none ≡ [] → one ≡ none ++ a → two ≡ one ++ b → three ≡ two ++ c →
+pub joined : (none one two three four : List Check) (a b c : List Check) → none ≡ [] → one ≡ none ++ a → two ≡ one ++ b
+    → three ≡ two ++ c →
     (last : List Check) → four ≡ three ++ last → four ≡ a ++ (b ++ (c ++ last))
 joined none one two three four a b c empty x y z last w =
     let first : one ≡ a = x ∙ ap (λ l. l ++ a) empty in

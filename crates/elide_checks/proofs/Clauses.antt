@@ -13,27 +13,32 @@ use Rattle.elide_checks.specs.Misread.{IsNoClause, IsNoItem, no_left, no_right}
 use Rattle.elide_checks.specs.Refused.{HasMisreadText, IsMisreadText}
 use Rattle.elide_checks.proofs.Zips.{no_text}
 
-no_side : (file : ProgramFile) (text before behind : List ℕ) (comparison : Comparison) → IsCompared text before comparison behind →
+no_side : (file : ProgramFile) (text before behind : List ℕ) (comparison : Comparison)
+    → IsCompared text before comparison behind →
     IsNoItem file (trim before) ⊎ IsNoItem file (trim behind) → IsNoClause file text
 no_side file text before behind comparison sides (inl none) = no_left before behind comparison sides none
 no_side file text before behind comparison sides (inr none) = no_right before behind comparison sides none
 
 -- what the comparison of two sides is of the part that has them
-pub of_sides : (file : ProgramFile) (constants : List ℕ → Bool) (text before behind : List ℕ) (comparison : Comparison) (found : Option RunClause) →
+pub of_sides : (file : ProgramFile) (constants : List ℕ → Bool) (text before behind : List ℕ) (comparison : Comparison)
+    (found : Option RunClause) →
     IsCompared text before comparison behind →
     MatchOption found (IsNoItem file (trim before) ⊎ IsNoItem file (trim behind))
     (λ clause. (other : List ℕ) → IsCompared other before comparison behind → IsClause file constants other clause) →
     MatchOption found (IsNoClause file text) (IsClause file constants text)
-of_sides file constants text before behind comparison None sides none = no_side file text before behind comparison sides none
+of_sides file constants text before behind comparison None sides none =
+    no_side file text before behind comparison sides none
 of_sides file constants text before behind comparison (Some clause) sides is = is text sides
 
 -- a text is none for another's sake
-pub as_well : {A B : Type 0} (name : List ℕ) (why : Refusal) → (A → B) → IsMisreadText A name why → IsMisreadText B name why
+pub as_well : {A B : Type 0} (name : List ℕ) (why : Refusal) → (A → B) → IsMisreadText A name why
+    → IsMisreadText B name why
 as_well name why f (inl h) = inl (f h.0, h.1)
 as_well name why f (inr want) = inr want
 
 -- one of some texts is none
-pub among_texts : (Rule : List ℕ → Type 0) (texts : List (Bor (List ℕ))) (i : ℕ) (name : List ℕ) (why : Refusal) → i < length texts →
+pub among_texts : (Rule : List ℕ → Type 0) (texts : List (Bor (List ℕ))) (i : ℕ) (name : List ℕ) (why : Refusal)
+    → i < length texts →
     IsMisreadText (Rule (get_or texts i no_text).now) name why → HasMisreadText Rule texts name why ⊎ (why ≡ want)
 among_texts Rule texts i name why below (inl h) = inl (record {
   text = get_or texts i no_text;

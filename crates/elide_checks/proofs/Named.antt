@@ -17,7 +17,8 @@ use Rattle.elide_checks.specs.Constants.{is_among, is_equ, is_equ_among, is_equ_
 use Rattle.elide_checks.specs.EquNames.{both_more, equ_names, item_names, names_in, none_more}
 
 -- one entry more
-pub one_more : (a b c : List Name) (es : List Entry) (e : Entry) → b ≡ a ++ names_in es → c ≡ b ++ equ_names e → c ≡ a ++ names_in (es ++ e ∷ [])
+pub one_more : (a b c : List Name) (es : List Entry) (e : Entry) → b ≡ a ++ names_in es → c ≡ b ++ equ_names e
+    → c ≡ a ++ names_in (es ++ e ∷ [])
 one_more a b c es e x y = both_more a b c es (e ∷ []) x (y ∙ ap (λ l. b ++ l) (none_more (equ_names e)))
 
 -- ---- which names they are
@@ -36,7 +37,8 @@ or_none false = refl
 abbrev is_name : List ℕ → Name → Bool
 is_name name other = bytes_eq name (whole_name other)
 
-here : (naming : Naming) (name : List ℕ) (i : Item) → list_any (is_name name) (item_names i) ≡ is_equ_item name (item_content (written naming) i)
+here : (naming : Naming) (name : List ℕ) (i : Item)
+    → list_any (is_name name) (item_names i) ≡ is_equ_item name (item_content (written naming) i)
 here naming name (item.Equ definition terms) = or_none (is_name name definition.name)
 here naming name (item.Label definition) = refl
 here naming name (item.Code template) = refl
@@ -61,4 +63,5 @@ pub are_constants : (text : List ℕ) (names : Names) (es : List Entry) (kept : 
     kept ≡ names_in es → (name : List ℕ) → is_among kept name ≡ is_equ_among name (entries_of text)
 are_constants text names es kept reads are name =
     let asked = asks_for text names es reads in
-    ap (λ (l : List Name). is_among l name) are ∙ among asked.naming name es ∙ sym (ap (is_equ_among name) asked.written)
+    ap (λ (l : List Name). is_among l name) are ∙ among asked.naming name es
+    ∙ sym (ap (is_equ_among name) asked.written)

@@ -1,7 +1,8 @@
 -- The turns of operators tell them apart.
 use Rattle.std.proofs.Common.{◌≡◌, ℕ, ◌==◌, if◌then◌else◌, ap, sym, ◌∙◌, refl}
 use Rattle.tm_condition.specs.declared.comparison.Comparison.{Comparison}
-use Rattle.tm_condition.specs.declared.comparison.Comparison.TheVariants.{Equal, NotEqual, Below, AtMost, Above, AtLeast}
+use Rattle.tm_condition.specs.declared.comparison.Comparison.TheVariants.{Equal, NotEqual, Below, AtMost, Above}
+use Rattle.tm_condition.specs.declared.comparison.Comparison.TheVariants.{AtLeast}
 use Rattle.elide_checks.specs.Conditions.{turn}
 
 -- which operator a turn is

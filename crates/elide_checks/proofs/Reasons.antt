@@ -14,12 +14,14 @@ use Rattle.tm_rule.specs.declared.kinds.Stop.TheVariants as stop
 use Rattle.elide_checks.specs.Runs.{method_word}
 
 -- the option of this name is misused, which a program's refusal says
-pub misuse_named : (name : List ℕ) (said : Bor (List ℕ)) (cause : ProgramRefusal) (why : Refusal) → cause ≡ program.Usage said →
+pub misuse_named : (name : List ℕ) (said : Bor (List ℕ)) (cause : ProgramRefusal) (why : Refusal)
+    → cause ≡ program.Usage said →
     why ≡ refusal_of cause → said.now ≡ name → IsMisuse name why
 misuse_named name said cause why named told is =
     subst (λ (w : Refusal). IsMisuse name w) (sym (told ∙ ap refusal_of named)) is
 
-pub no_method : (word : List ℕ) → word ≢ codes "mix" → word ≢ codes "uniform" → word ≢ codes "bursts" → word ≢ codes "pct" →
+pub no_method : (word : List ℕ) → word ≢ codes "mix" → word ≢ codes "uniform" → word ≢ codes "bursts"
+    → word ≢ codes "pct" →
     word ≢ codes "seen" → (method : Method) → word ≢ method_word method
 no_method word mix uniform bursts pct seen Mix e = mix e
 no_method word mix uniform bursts pct seen Uniform e = uniform e
@@ -27,8 +29,10 @@ no_method word mix uniform bursts pct seen Bursts e = bursts e
 no_method word mix uniform bursts pct seen Priorities e = pct e
 no_method word mix uniform bursts pct seen Seen e = seen e
 
-pub no_stop : (word : List ℕ) → word ≢ codes "#DE" → word ≢ codes "#BP" → word ≢ codes "#UD" → word ≢ codes "#GP" → word ≢ codes "HLT" →
-    word ≢ codes "range" → word ≢ codes "code-store" → word ≢ codes "fetch" → word ≢ codes "not-in-subset" → (why : Stop) →
+pub no_stop : (word : List ℕ) → word ≢ codes "#DE" → word ≢ codes "#BP" → word ≢ codes "#UD" → word ≢ codes "#GP"
+    → word ≢ codes "HLT" →
+    word ≢ codes "range" → word ≢ codes "code-store" → word ≢ codes "fetch" → word ≢ codes "not-in-subset"
+    → (why : Stop) →
     stop_word why ≢ word
 no_stop word de bp ud gp hlt range code fetch other stop.Divide e = de (sym e)
 no_stop word de bp ud gp hlt range code fetch other stop.Breakpoint e = bp (sym e)

@@ -7,7 +7,8 @@ use Rattle.tm_condition.specs.declared.item.Item.TheVariants.{Register, Memory, 
 use Rattle.elide_checks.specs.Items.{IsItem, IsNamed, IsParted}
 use Rattle.elide_checks.specs.declared.items.Side.{Side}
 
-pub named_is : (file : ProgramFile) (constants : List ℕ → Bool) (side : Side) (word name whose : List ℕ) (quantity : Quantity) →
+pub named_is : (file : ProgramFile) (constants : List ℕ → Bool) (side : Side) (word name whose : List ℕ)
+    (quantity : Quantity) →
     IsParted word name whose → IsNamed name whose quantity → IsItem file constants side word quantity
 named_is file constants side word name whose (OfMachine (Register core register)) parts is =
     record { before = name; behind = whose; parts = parts; named = is }

@@ -15,7 +15,8 @@ zip_more R (z ∷ xs) (w ∷ ys) (suc i) d y h all r =
     (all.0, zip_more R xs ys i d y (omega (arith, h)) all.1 r)
 
 -- one pair more
-pub zip_added : {A B : Type 0} (R : A → B → Type 0) (xs : List A) (ys new : List B) (i : ℕ) (d : A) (y : B) → i < length xs
+pub zip_added : {A B : Type 0} (R : A → B → Type 0) (xs : List A) (ys new : List B) (i : ℕ) (d : A)
+    (y : B) → i < length xs
     → AllZip R (take i xs) ys → R (get_or xs i d) y → new ≡ ys ++ y ∷ [] → AllZip R (take (i + 1) xs) new
 zip_added {A} {B} R xs ys new i d y h all r e =
     subst (λ (l : List B). AllZip R (take (i + 1) xs) l) (sym e) (zip_more R xs ys i d y h all r)

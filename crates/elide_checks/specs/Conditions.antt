@@ -11,7 +11,8 @@ use Rattle.tm_check.specs.declared.clause.RunClause.{RunClause}
 use Rattle.tm_check.specs.declared.clause.RunClause.TheVariants as clause
 use Rattle.tm_condition.specs.declared.clause.Clause.TheVariants.{Compare, Bytes}
 use Rattle.tm_condition.specs.declared.comparison.Comparison.{Comparison}
-use Rattle.tm_condition.specs.declared.comparison.Comparison.TheVariants.{Equal, NotEqual, Below, AtMost, Above, AtLeast}
+use Rattle.tm_condition.specs.declared.comparison.Comparison.TheVariants.{Equal, NotEqual, Below, AtMost, Above}
+use Rattle.tm_condition.specs.declared.comparison.Comparison.TheVariants.{AtLeast}
 use Rattle.elide_checks.specs.Cuts.{IsCut, Lacks}
 use Rattle.elide_checks.specs.Items.{IsItem}
 use Rattle.elide_checks.specs.declared.items.Side.TheVariants.{Left, Right}

@@ -22,7 +22,8 @@ use std::alloc::{AllocError, Global};
 use tm_check::{Quantity, RunClause};
 use tm_condition::{Clause, Comparison};
 
-/// What a text says: comparisons and bytes, with `&&` between them. Anything else is a misuse of the option of this name.
+/// What a text says: comparisons and bytes, with `&&` between them. Anything else is a misuse of the option of this
+/// name.
 pub fn condition_of(
     alloc: Global,
     text: &str,
@@ -30,7 +31,8 @@ pub fn condition_of(
     name: &'static str,
 ) -> Result<Vec<RunClause>, Refusal>
     ensures { MatchResult result
-        (λ clauses. IsCondition scope.now.file.now (is_among scope.now.constants.now.names.items) text.now clauses.items)
+        (λ clauses. IsCondition scope.now.file.now (is_among scope.now.constants.now.names.items)
+        text.now clauses.items)
         (IsMisreadText (IsNoCondition scope.now.file.now text.now) name.now) }
 {
     let mut clauses = Vec::new(alloc);

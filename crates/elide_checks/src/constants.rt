@@ -56,7 +56,8 @@ impl<'t> Constants<'t> {
     // Those of a source.
     fn of_source(alloc: Global, source: &'t [u8]) -> Result<Constants<'t>, Refusal>
         ensures { MatchResult result
-            (λ constants. (name : List ℕ) → is_among constants.names.items name ≡ is_equ_among name (entries_of source.now))
+            (λ constants. (name : List ℕ)
+            → is_among constants.names.items name ≡ is_equ_among name (entries_of source.now))
             (λ why. why ≡ want) }
     {
         let mut walk = EquNames {

@@ -90,7 +90,8 @@ fn checks_of(
     scope: &Scope<'_, '_, '_>,
 ) -> Result<Vec<Check>, Refusal>
     ensures { MatchResult result
-        (λ checks. AreChecksBy scope.now.file.now (is_among scope.now.constants.now.names.items) options.now checks.items)
+        (λ checks. AreChecksBy scope.now.file.now (is_among scope.now.constants.now.names.items)
+        options.now checks.items)
         (AreNoDemands scope.now.file.now options.now) }
 {
     let mut checks = Vec::new(alloc);

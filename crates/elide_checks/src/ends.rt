@@ -101,7 +101,8 @@ fn checks_of(
     ensures { MatchResult result
         (λ checks. AreEndChecksBy scope.now.file.now (is_among scope.now.constants.now.names.items) demands.now
         forbids.now checks.items)
-        (AreMisreadTexts (IsNoEndCondition scope.now.file.now (is_among scope.now.constants.now.names.items)) demands.now
+        (AreMisreadTexts (IsNoEndCondition scope.now.file.now (is_among scope.now.constants.now.names.items))
+        demands.now
         forbids.now) }
 {
     let mut checks = Vec::new(alloc);
@@ -140,7 +141,8 @@ fn add_forbidden(
 ) -> Result<(), Refusal>
     ensures { MatchResult result
         (λ _. (more : List CheckOf) × (checks.new.items ≡ checks.old.items ++ more)
-        × AllZip (λ text check. IsEndForbidden scope.now.file.now (is_among scope.now.constants.now.names.items) text.now
+        × AllZip
+        (λ text check. IsEndForbidden scope.now.file.now (is_among scope.now.constants.now.names.items) text.now
         check) texts.now more)
         (λ why. HasMisreadText (IsNoEndCondition scope.now.file.now (is_among scope.now.constants.now.names.items))
         texts.now (codes "--forbid") why ⊎ (why ≡ want)) }
@@ -160,7 +162,8 @@ fn machine_condition_of(
     name: &'static str,
 ) -> Result<Vec<Clause>, Refusal>
     ensures { MatchResult result
-        (λ clauses. IsOfMachine scope.now.file.now (is_among scope.now.constants.now.names.items) text.now clauses.items)
+        (λ clauses. IsOfMachine scope.now.file.now (is_among scope.now.constants.now.names.items)
+        text.now clauses.items)
         (IsMisreadText (IsNoEndCondition scope.now.file.now (is_among scope.now.constants.now.names.items) text.now)
         name.now) }
 {

@@ -6,7 +6,8 @@
 
 ghost use Rattle.std.specs.Prelude.{◌≡◌, ◌≢◌, ◌∷◌, List, MatchOption, Some, length, ℕ};
 ghost use Rattle.elide_checks.specs.Constants.{is_among};
-ghost use Rattle.elide_checks.specs.Items.{IsItem, IsNamed, IsParted, at_place, are_numbers, is_address, is_number, trimmed};
+ghost use Rattle.elide_checks.specs.Items.{IsItem, IsNamed, IsParted, at_place, are_numbers, is_address, is_number};
+ghost use Rattle.elide_checks.specs.Items.{trimmed};
 ghost use Rattle.elide_checks.specs.Misread.{IsNoItem, IsNoNamed, IsNoRegister};
 ghost use Rattle.elide_program.specs.Sums.{is_sign};
 ghost use Rattle.elide_program.specs.Settings.{word32};
@@ -40,8 +41,8 @@ pub struct Scope<'s, 'f, 't> {
     pub constants: &'s Constants<'t>,
 }
 
-/// The item of a word, around which no spaces stand: a register of a core, as `eax@0`; a count, as `commits@*`; an address
-/// behind `&`; or a sum.
+/// The item of a word, around which no spaces stand: a register of a core, as `eax@0`; a count, as `commits@*`; an
+/// address behind `&`; or a sum.
 pub fn item_of(word: &str, side: Side, scope: &Scope<'_, '_, '_>) -> Option<Quantity>
     ensures { MatchOption result (IsNoItem scope.now.file.now word.now)
         (IsItem scope.now.file.now (is_among scope.now.constants.now.names.items) side word.now) }

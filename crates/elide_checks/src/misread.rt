@@ -35,8 +35,8 @@ pub struct Misread<'a> {
     pub wanted: Wanted,
 }
 
-/// The first words that cannot be read in the first of some conditions that is none, for the program that a text was read
-/// as.
+/// The first words that cannot be read in the first of some conditions that is none, for the program that a text was
+/// read as.
 pub fn first_misread<'a>(
     alloc: Global,
     conditions: &[&'a str],

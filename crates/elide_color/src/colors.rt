@@ -29,7 +29,8 @@ impl When {
         }
     }
 
-    /// Whether text on a device is painted, by whether that is a terminal's, and whether no colours are asked for by NO_COLOR.
+    /// Whether text on a device is painted, by whether that is a terminal's, and whether no colours are asked for by
+    /// NO_COLOR.
     pub fn is_painted(self, is_terminal: bool, is_plain: bool) -> bool
         ensures { result ≡ is_painted self is_terminal is_plain }
     {

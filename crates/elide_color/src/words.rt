@@ -62,8 +62,8 @@ impl Place {
     };
 }
 
-/// A device that hands text on to another one, with the first words of each line painted. What it is given is handed on whole
-/// before the call ends. Words are what stands between spaces.
+/// A device that hands text on to another one, with the first words of each line painted. What it is given is handed on
+/// whole before the call ends. Words are what stands between spaces.
 #[derive(Drop)]
 pub struct PaintedWords<'o, O> {
     out: &'o mut O,

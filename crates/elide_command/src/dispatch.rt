@@ -22,15 +22,15 @@ use std::thread::Threads;
 use text_out::Out;
 use tm_debug::In;
 
-/// Does what the words say, and gives the exit status: 0, 1 for a fault, 2 for a misused command line, 3 where a run failed what
-/// was asked of it or a search was cut at its limit.
+/// Does what the words say, and gives the exit status: 0, 1 for a fault, 2 for a misused command line, 3 where a run
+/// failed what was asked of it or a search was cut at its limit.
 ///
-/// The words are the arguments without the program's name. A fault is one line on `err`, as `fault 23 BadCores`, or with the
-/// line of a text as `fault 27 BadImageText line 3`; a misused option is `usage: ` and its name. Nothing is written on
-/// `out` then, unless the fault came while writing there. Warnings of a source stand on `err` before. Telling them takes no
-/// memory. `surroundings` tells which of these devices are a terminal's: where `err` is, or `--words` asks for it, what is
-/// meant by a fault follows its line, and messages and listings are painted as `--color` says. Long work tells `progress`
-/// how far it is. Waits only for `input` and for workers.
+/// The words are the arguments without the program's name. A fault is one line on `err`, as `fault 23 BadCores`, or
+/// with the line of a text as `fault 27 BadImageText line 3`; a misused option is `usage: ` and its name. Nothing is
+/// written on `out` then, unless the fault came while writing there. Warnings of a source stand on `err` before.
+/// Telling them takes no memory. `surroundings` tells which of these devices are a terminal's: where `err` is, or
+/// `--words` asks for it, what is meant by a fault follows its line, and messages and listings are painted as `--color`
+/// says. Long work tells `progress` how far it is. Waits only for `input` and for workers.
 pub fn command<
     R: Threads + Wait + Sync + AllocGlobal,
     P: Paths,
@@ -68,7 +68,8 @@ pub fn end_early<E: Out>(end: NotASubcommand, surroundings: Surroundings, err: &
     }
 }
 
-/// Does what a command line asks for, and gives the exit status. `test` is misused here, since `elide_trial` carries it out.
+/// Does what a command line asks for, and gives the exit status. `test` is misused here, since `elide_trial` carries it
+/// out.
 pub fn carry_out<
     R: Threads + Wait + Sync + AllocGlobal,
     P: Paths,

@@ -1,7 +1,7 @@
 //! One command, by the crate that carries it out.
 //!
-//! Each stands in a function of its own that is not inlined: a stack that is small has to hold what one command keeps there, and
-//! not what all of them do.
+//! Each stands in a function of its own that is not inlined: a stack that is small has to hold what one command keeps
+//! there, and not what all of them do.
 
 use crate::answer::{Answer, done, ran, replayed, searched, sought};
 use crate::look::Look;

@@ -41,8 +41,8 @@ impl Surroundings {
         }
     }
 
-    /// Whether it is told beside a fault where it stands and what is meant. `--words` has the values of `--color`, and where it is
-    /// not given, ELIDE_WORDS may ask for `always`.
+    /// Whether it is told beside a fault where it stands and what is meant. `--words` has the values of `--color`, and
+    /// where it is not given, ELIDE_WORDS may ask for `always`.
     pub fn words(self, when: When) -> bool
         ensures { result ≡ are_told when self.terminals.errors self.tells_words }
     {
@@ -53,7 +53,8 @@ impl Surroundings {
         }
     }
 
-    /// Whether the reason of a stop where the subset ends, which stands on standard output, goes on with what stands there.
+    /// Whether the reason of a stop where the subset ends, which stands on standard output, goes on with what stands
+    /// there.
     pub fn names(self, when: When) -> bool
         ensures { result ≡ are_told when self.terminals.output self.tells_words }
     {

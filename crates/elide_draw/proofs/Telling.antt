@@ -1,5 +1,6 @@
 -- Steps that a picture is told, some behind others.
-use Rattle.std.proofs.Common.{◌≡◌, ℕ, ◌+◌, ◌^◌, ◌<◌, ◌≤◌, ◌∙◌, List, [], ◌∷◌, ◌++◌, Some, true, arith, refl, sym, ap, subst, append-nil, append_assoc, length, length-append}
+use Rattle.std.proofs.Common.{◌≡◌, ℕ, ◌+◌, ◌^◌, ◌<◌, ◌≤◌, ◌∙◌, List, [], ◌∷◌, ◌++◌, Some, true, arith, refl, sym, ap}
+use Rattle.std.proofs.Common.{subst, append-nil, append_assoc, length, length-append}
 use Rattle.std.specs.Prelude.{Contains, IfErr, IfOk, Result, Ok, Err, ⊤}
 use Rattle.std.proofs.lemmas.List.Elements.{Contains-append_left, Contains-append_right}
 use Rattle.elide_setup.specs.Runs.{AreMachineSteps}
@@ -65,7 +66,8 @@ bar_still : (old new : Picture) (core number : ℕ) (what : Fate) → GrowBars o
     HasBar new core number what
 bar_still old new core number what more h = record {
   span = h.span;
-  drawn = subst (λ (l : List Span). Contains l h.span) (sym more.1) (Contains-append_left (bars old) more.0 h.span h.drawn);
+  drawn =
+      subst (λ (l : List Span). Contains l h.span) (sym more.1) (Contains-append_left (bars old) more.0 h.span h.drawn);
   ended = h.ended;
 }
 
@@ -116,7 +118,8 @@ told_then a b c steps others one other =
     }
 
 -- one step, and what is told beside it
-pub told_one : (a b : Timeline) (pick : Pick) (came_to : Outcome) → (a.next + 1 < 2 ^ 32 → b.next ≡ a.next + 1) → Grows a b →
+pub told_one : (a b : Timeline) (pick : Pick) (came_to : Outcome)
+    → (a.next + 1 < 2 ^ 32 → b.next ≡ a.next + 1) → Grows a b →
     ((what : Fate) → fate_at came_to ≡ Some what → is_few a.picture ≡ true → a.window.from ≤ a.next →
     a.next < a.window.to → AddsBar a.picture b.picture pick.core a.next what) →
     AreTold a ((pick, came_to) ∷ []) b
@@ -137,7 +140,8 @@ told_one a b pick came_to next grows bar = record {
   );
 }
 
-pub told_between : (a b c d : Timeline) (steps : List (Pick × Outcome)) → SameSteps a b → AreTold b steps c → SameSteps c d →
+pub told_between : (a b c d : Timeline) (steps : List (Pick × Outcome)) → SameSteps a b → AreTold b steps c
+    → SameSteps c d →
     AreTold a steps d
 told_between a b c d steps before told after =
     subst (λ (l : List (Pick × Outcome)). AreTold a l d) (append-nil steps)
@@ -165,7 +169,8 @@ parts_told machine_of timeline_of (part ∷ parts) a b h =
     )
 
 -- all steps of a walk
-pub walk_told : {W : Type 0} (a b : W) (machine_of : W → Machine) (timeline_of : W → Timeline) (steps : List (Pick × Outcome)) →
+pub walk_told : {W : Type 0} (a b : W) (machine_of : W → Machine) (timeline_of : W → Timeline)
+    (steps : List (Pick × Outcome)) →
     Leads (Watches machine_of timeline_of) a steps b →
     Leads AreMachineSteps (machine_of a) steps (machine_of b) × AreTold (timeline_of a) steps (timeline_of b)
 walk_told a b machine_of timeline_of steps h =
@@ -176,7 +181,8 @@ walk_told a b machine_of timeline_of steps h =
 
 -- ---- a run
 
-pub told_of : (window : Window) (steps : List (Pick × Outcome)) (blank begun last done : Timeline) → IsBlank window blank →
+pub told_of : (window : Window) (steps : List (Pick × Outcome)) (blank begun last done : Timeline)
+    → IsBlank window blank →
     SameSteps blank begun → AreTold begun steps last → done.next ≡ last.next → Grows last done →
     IsToldOf window steps done
 told_of window steps blank begun last done none same told still grows =

@@ -88,8 +88,8 @@ impl<'a> Asked<'a> {
     }
 }
 
-// Reads the program, and draws its run. What is made in one of these functions is lent to the next, and what owns much is
-// dropped by a call, so that each is proved soon.
+// Reads the program, and draws its run. What is made in one of these functions is lent to the next, and what owns much
+// is dropped by a call, so that each is proved soon.
 fn draw_plan<P: Paths, O: Out, G: Progress>(
     alloc: Global,
     settings: &Settings<'_>,

@@ -34,8 +34,8 @@ pub struct Tally {
     pub made: Vec<Pick>,
 }
 
-/// How many steps a schedule makes: those of the list, or those that are drawn until all cores have stopped or the limit is
-/// reached. `keeps` asks for the picks that are drawn.
+/// How many steps a schedule makes: those of the list, or those that are drawn until all cores have stopped or the
+/// limit is reached. `keeps` asks for the picks that are drawn.
 pub fn counted<G: Progress>(
     alloc: Global,
     setup: &Setup,
@@ -95,8 +95,8 @@ impl StepMaker for Counter {
     }
 }
 
-/// Runs a schedule, and tells a timeline of this window of it. A picker draws the picks that it drew when the steps were
-/// counted.
+/// Runs a schedule, and tells a timeline of this window of it. A picker draws the picks that it drew when the steps
+/// were counted.
 pub fn watched<S: Scene + Drop, G: Progress>(
     alloc: Global,
     setup: &Setup,

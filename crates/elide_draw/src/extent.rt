@@ -33,8 +33,8 @@ impl Extent {
         Ok(Extent { from, to })
     }
 
-    /// The steps of a run of this length: those that are there, where more are asked for. It is a misuse to begin before the
-    /// first step or behind the last, and to end before the first that is drawn.
+    /// The steps of a run of this length: those that are there, where more are asked for. It is a misuse to begin
+    /// before the first step or behind the last, and to end before the first that is drawn.
     pub fn window(&self, total: u32) -> Result<Window, Refusal>
         ensures { IfOk result (IsWindow self.now.from self.now.to total) }
     {

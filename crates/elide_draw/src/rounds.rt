@@ -38,8 +38,9 @@ impl Rounds {
         }
     }
 
-    /// Tells a timeline in which steps a core waited, behind a step that it was told: on PAUSE outside of transactions, and in each
-    /// round of a loop outside of them that ended with the registers which it began with, and stored nothing.
+    /// Tells a timeline in which steps a core waited, behind a step that it was told: on PAUSE outside of transactions,
+    /// and in each round of a loop outside of them that ended with the registers which it began with, and stored
+    /// nothing.
     #[tactic(auto, using(crate::proofs::Telling::same_self, crate::proofs::Telling::same_more))]
     pub fn tell(
         &mut self,

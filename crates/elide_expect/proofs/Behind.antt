@@ -1,5 +1,7 @@
 -- Pieces of a text, and where they stand.
-use Rattle.std.proofs.Common.{◌≡◌, ◌≢◌, ℕ, zero, suc, ◌+◌, ◌-◌, ◌<◌, Bool, true, false, List, [], ◌∷◌, ◌++◌, map, append_assoc, Option, Some, None, refl, sym, ◌∙◌, ap, take, drop, length, get_or, arith, inl, inr, nat_eq}
+use Rattle.std.proofs.Common.{◌≡◌, ◌≢◌, ℕ, zero, suc, ◌+◌, ◌-◌, ◌<◌, Bool, true, false, List, [], ◌∷◌, ◌++◌, map}
+use Rattle.std.proofs.Common.{append_assoc, Option, Some, None, refl, sym, ◌∙◌, ap, take, drop, length, get_or, arith}
+use Rattle.std.proofs.Common.{inl, inr, nat_eq}
 use Rattle.std.proofs.lemmas.Bool.{cases_Bool, cases_lt}
 use Rattle.std.proofs.lemmas.List.{at_drop_more, drop-drop, drop_more}
 use denote.Bor.{Bor}
@@ -11,7 +13,8 @@ use Rattle.elide_expect.specs.Patterns.{meets, pieces_from, pieces_of, place_of,
 
 -- ---- the first place
 
-shift : (i : ℕ) (place : Option ℕ) → option_map (λ k. i + k) (option_map (λ k. suc k) place) ≡ option_map (λ k. i + 1 + k) place
+shift : (i : ℕ) (place : Option ℕ)
+    → option_map (λ k. i + k) (option_map (λ k. suc k) place) ≡ option_map (λ k. i + 1 + k) place
 shift i None = refl
 shift i (Some k) = let e : i + suc k ≡ i + 1 + k = omega arith in ap Some e
 
@@ -23,7 +26,8 @@ pub place_more : (p xs : List ℕ) (i : ℕ) → i < length xs → starts_with n
     → option_map (λ k. i + k) (place_of p (drop i xs)) ≡ option_map (λ k. i + 1 + k) (place_of p (drop (i + 1) xs))
 place_more p xs i h e =
     let d : drop i xs ≡ get_or xs i 0 ∷ drop (i + 1) xs = at_drop_more (λ l. l) xs i 0 h in
-    let f : starts_with nat_eq (get_or xs i 0 ∷ drop (i + 1) xs) p ≡ false = sym (ap (λ l. starts_with nat_eq l p) d) ∙ e in
+    let f : starts_with nat_eq (get_or xs i 0 ∷ drop (i + 1) xs) p ≡ false =
+    sym (ap (λ l. starts_with nat_eq l p) d) ∙ e in
     ap (λ l. option_map (λ k. i + k) (place_of p l)) d ∙ place_cons i p (get_or xs i 0) (drop (i + 1) xs) f
 
 -- ---- the pieces of a text
@@ -38,9 +42,11 @@ abbrev pub cut_at : List ℕ → Option ℕ → List (List ℕ)
 cut_at text None = text ∷ []
 cut_at text (Some k) = take k text ∷ pieces_of (drop (k + 3) text)
 
-onto_cut : (b : ℕ) (bs : List ℕ) (place : Option ℕ) → onto b (cut_at bs place) ≡ cut_at (b ∷ bs) (option_map (λ k. suc k) place)
+onto_cut : (b : ℕ) (bs : List ℕ) (place : Option ℕ)
+    → onto b (cut_at bs place) ≡ cut_at (b ∷ bs) (option_map (λ k. suc k) place)
 onto_cut b bs None = refl
-onto_cut b bs (Some k) = let e : suc k + 3 ≡ suc (k + 3) = omega arith in ap (λ n. (b ∷ take k bs) ∷ pieces_of (drop n (b ∷ bs))) (sym e)
+onto_cut b bs (Some k) =
+    let e : suc k + 3 ≡ suc (k + 3) = omega arith in ap (λ n. (b ∷ take k bs) ∷ pieces_of (drop n (b ∷ bs))) (sym e)
 
 pub pieces_step : (text : List ℕ) → pieces_of text ≡ cut_at text (place_of (codes "...") text)
 pieces_step [] = refl
@@ -77,7 +83,8 @@ other_length (x ∷ a) (y ∷ b) h =
     let k : length a ≢ length b = omega (arith, h) in
     ap (λ t. nat_eq x y && t) (other_length a b k) ∙ and_false (nat_eq x y)
 
-last_of : (p : List ℕ) (b : ℕ) (bs : List ℕ) → (pointwise nat_eq p (b ∷ bs) || ends_with nat_eq bs p) ≡ ends_with nat_eq (b ∷ bs) p
+last_of : (p : List ℕ) (b : ℕ) (bs : List ℕ)
+    → (pointwise nat_eq p (b ∷ bs) || ends_with nat_eq bs p) ≡ ends_with nat_eq (b ∷ bs) p
 last_of p b bs = elim (cases_lt (length bs) (length p)) [
   | inl more ↦
       let z : length (b ∷ bs) - length p ≡ 0 = omega arith in
@@ -164,10 +171,12 @@ some_last (row ∷ rows) last = omega arith
 
 pub behind_step : (rows : List (Bor (List ℕ))) (last : Bor (List ℕ)) (i : ℕ) (l : List ℕ) → i < length rows
     → some_end (meets (nows (drop i rows ++ last ∷ []))) l
-    ≡ left (nows (drop (i + 1) rows ++ last ∷ [])) (get_or rows i nothing).now l (place_of (get_or rows i nothing).now l)
+    ≡ left (nows (drop (i + 1) rows ++ last ∷ [])) (get_or rows i nothing).now l
+    (place_of (get_or rows i nothing).now l)
 behind_step rows last i l h =
     ap (λ ms. some_end (meets (nows (ms ++ last ∷ []))) l) (drop_more rows i nothing h)
-    ∙ piece_step (get_or rows i nothing).now (nows (drop (i + 1) rows ++ last ∷ [])) l (some_last (drop (i + 1) rows) last)
+    ∙ piece_step (get_or rows i nothing).now (nows (drop (i + 1) rows ++ last ∷ [])) l
+    (some_last (drop (i + 1) rows) last)
 
 pub of_none : (rows : List (Bor (List ℕ))) (l : List ℕ) → length rows ≡ 0 → some_end (meets (nows rows)) l ≡ false
 of_none [] l h = ends_none l

@@ -1,5 +1,6 @@
 -- Lines in their order: the first that passes is the one to take.
-use Rattle.std.proofs.Common.{◌≡◌, ℕ, zero, suc, ◌+◌, ◌<◌, ◌≤◌, Bool, true, false, List, [], ◌∷◌, refl, ◌∙◌, ap, drop, length, arith, inl, inr}
+use Rattle.std.proofs.Common.{◌≡◌, ℕ, zero, suc, ◌+◌, ◌<◌, ◌≤◌, Bool, true, false, List, [], ◌∷◌, refl, ◌∙◌, ap, drop}
+use Rattle.std.proofs.Common.{length, arith, inl, inr}
 use Rattle.std.proofs.lemmas.Bool.{and_parts, cases_Bool, or_cases}
 use Rattle.std.specs.Prelude.{◌&&◌, ◌||◌}
 use Rattle.std.specs.List.{position_or_len}
@@ -16,7 +17,8 @@ followed_of test next zero (l ∷ ls) h = h
 followed_of test next (suc j) (l ∷ ls) h =
     ap (λ t. (test l && next ls) || t) (followed_of test next j ls h) ∙ or_true (test l && next ls)
 
-order_of : (patterns : List (List (List ℕ))) (j : ℕ) (ls : List (Bor (List ℕ))) → in_order patterns (drop j ls) ≡ true → in_order patterns ls ≡ true
+order_of : (patterns : List (List (List ℕ))) (j : ℕ) (ls : List (Bor (List ℕ))) → in_order patterns (drop j ls) ≡ true
+    → in_order patterns ls ≡ true
 order_of [] j ls h = refl
 order_of (p ∷ ps) j ls h = followed_of (λ line. meets p line.now) (in_order ps) j ls h
 
@@ -24,13 +26,15 @@ order_of (p ∷ ps) j ls h = followed_of (λ line. meets p line.now) (in_order p
 next_of : (test : Bor (List ℕ) → Bool) (ps : List (List (List ℕ))) (ls : List (Bor (List ℕ)))
     → followed test (in_order ps) ls ≡ true → in_order ps ls ≡ true
 next_of test ps [] h = cc
-next_of test ps (l ∷ ls) h = order_of ps 1 (l ∷ ls) (elim (or_cases (test l && in_order ps ls) (followed test (in_order ps) ls) h) [
-  | inl a ↦ (and_parts (test l) (in_order ps ls) a).1
-  | inr b ↦ next_of test ps ls b
-])
+next_of test ps (l ∷ ls) h =
+    order_of ps 1 (l ∷ ls) (elim (or_cases (test l && in_order ps ls) (followed test (in_order ps) ls) h) [
+      | inl a ↦ (and_parts (test l) (in_order ps ls) a).1
+      | inr b ↦ next_of test ps ls b
+    ])
 
 pub followed_some : (test : Bor (List ℕ) → Bool) (ps : List (List (List ℕ))) (ls : List (Bor (List ℕ)))
-    → position_or_len test ls < length ls → followed test (in_order ps) ls ≡ in_order ps (drop (position_or_len test ls + 1) ls)
+    → position_or_len test ls < length ls
+    → followed test (in_order ps) ls ≡ in_order ps (drop (position_or_len test ls + 1) ls)
 followed_some test ps [] h = absurd (omega arith)
 followed_some test ps (l ∷ ls) h = elim (cases_Bool (test l)) [
   | inl t ↦ rw t (absorbed (in_order ps ls) (followed test (in_order ps) ls) (next_of test ps ls))

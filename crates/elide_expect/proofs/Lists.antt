@@ -1,23 +1,27 @@
 -- Lists of texts, and places in lists.
-use Rattle.std.proofs.Common.{◌≡◌, ℕ, suc, ◌+◌, ◌<◌, ◌≤◌, Bool, List, [], ◌∷◌, Option, Some, None, refl, sym, ◌∙◌, ap, take, length, map, inl, inr, nat_eq}
+use Rattle.std.proofs.Common.{◌≡◌, ℕ, suc, ◌+◌, ◌<◌, ◌≤◌, Bool, List, [], ◌∷◌, Option, Some, None, refl, sym, ◌∙◌, ap}
+use Rattle.std.proofs.Common.{take, length, map, inl, inr, nat_eq}
 use Rattle.std.proofs.lemmas.Bool.{cases_Bool, cases_lt, cond_above, cond_below}
 use Rattle.std.proofs.lemmas.List.{take-map}
 use Rattle.std.specs.Prelude.{◌||◌, not, option_map, position, is_some}
 use Rattle.std.specs.List.{list_any, position_or_len, prefix_len, starts_with, take_while}
 use Rattle.elide_expect.specs.Patterns.{place_of, some_end}
 
-pub any_map : {X Y : Type 0} (p : Y → Bool) (f : X → Y) (xs : List X) → list_any (λ x. p (f x)) xs ≡ list_any p (map f xs)
+pub any_map : {X Y : Type 0} (p : Y → Bool) (f : X → Y) (xs : List X)
+    → list_any (λ x. p (f x)) xs ≡ list_any p (map f xs)
 any_map p f [] = refl
 any_map p f (x ∷ xs) = ap (λ t. p (f x) || t) (any_map p f xs)
 
-prefix_map : {X Y : Type 0} (p : Y → Bool) (f : X → Y) (xs : List X) → prefix_len (λ x. p (f x)) xs ≡ prefix_len p (map f xs)
+prefix_map : {X Y : Type 0} (p : Y → Bool) (f : X → Y) (xs : List X)
+    → prefix_len (λ x. p (f x)) xs ≡ prefix_len p (map f xs)
 prefix_map p f [] = refl
 prefix_map p f (x ∷ xs) = elim (cases_Bool (p (f x))) [
   | inl t ↦ rw t (ap (λ n. 1 + n) (prefix_map p f xs))
   | inr e ↦ rw e refl
 ]
 
-pub position_some : {X : Type 0} (p : X → Bool) (xs : List X) (k : ℕ) → position p xs ≡ Some k → position_or_len p xs ≡ k
+pub position_some : {X : Type 0} (p : X → Bool) (xs : List X) (k : ℕ) → position p xs ≡ Some k
+    → position_or_len p xs ≡ k
 position_some p xs k h = elim (cases_lt (position_or_len p xs) (length xs)) [
   | inl lt ↦ let e : Some (position_or_len p xs) ≡ Some k
       = cond_below (position_or_len p xs) (length xs) (Some (position_or_len p xs)) None lt ∙ h in cc
@@ -25,7 +29,8 @@ position_some p xs k h = elim (cases_lt (position_or_len p xs) (length xs)) [
       = cond_above (position_or_len p xs) (length xs) (Some (position_or_len p xs)) None None ge refl ∙ h in cc
 ]
 
-pub position_within : {X : Type 0} (p : X → Bool) (xs : List X) (k : ℕ) → position p xs ≡ Some k → position_or_len p xs < length xs
+pub position_within : {X : Type 0} (p : X → Bool) (xs : List X) (k : ℕ) → position p xs ≡ Some k
+    → position_or_len p xs < length xs
 position_within p xs k h = elim (cases_lt (position_or_len p xs) (length xs)) [
   | inl lt ↦ lt
   | inr ge ↦ let e : None ≡ Some k

@@ -1,5 +1,6 @@
 -- The fronts of lists, word by word.
-use Rattle.std.proofs.Common.{◌≡◌, ℕ, Bool, true, false, List, [], ◌∷◌, ◌++◌, Option, Some, None, refl, sym, ◌∙◌, ap, map, append_assoc, inl, inr, nat_eq}
+use Rattle.std.proofs.Common.{◌≡◌, ℕ, Bool, true, false, List, [], ◌∷◌, ◌++◌, Option, Some, None, refl, sym, ◌∙◌, ap}
+use Rattle.std.proofs.Common.{map, append_assoc, inl, inr, nat_eq}
 use Rattle.std.proofs.lemmas.Bool.{cases_Bool}
 use Rattle.std.proofs.lemmas.List.{append-nil}
 use Rattle.std.specs.Prelude.{codes, option_map}
@@ -34,7 +35,8 @@ begun None h = refl
 begun (Some []) h = cc
 begun (Some (l ∷ ls)) h = refl
 
-pub front_init : (words : List (List ℕ)) → option_map (λ ls. [] ++ onto_front [] ls) (lists_of words) ≡ option_map (map front_of) (lists_of words)
+pub front_init : (words : List (List ℕ))
+    → option_map (λ ls. [] ++ onto_front [] ls) (lists_of words) ≡ option_map (map front_of) (lists_of words)
 front_init words = begun (lists_of words) (some_list words)
 
 ended : (before : List (List ℕ)) (front : List ℕ) (lists : Option (List (List ℕ))) → is_some_list lists ≡ true
@@ -45,7 +47,8 @@ ended before front (Some []) h = cc
 ended before front (Some (l ∷ ls)) h = ap Some (append_assoc before (front ∷ []) (front_of l ∷ map front_of ls)
     ∙ ap (λ f. before ++ f ∷ front_of l ∷ map front_of ls) (sym (append-nil front)))
 
-pub front_end : (before : List (List ℕ)) (front word : List ℕ) (words : List (List ℕ)) → pointwise nat_eq word (codes "|") ≡ true
+pub front_end : (before : List (List ℕ)) (front word : List ℕ) (words : List (List ℕ))
+    → pointwise nat_eq word (codes "|") ≡ true
     → option_map (λ ls. (before ++ front ∷ []) ++ onto_front [] ls) (lists_of words)
     ≡ option_map (λ ls. before ++ onto_front front ls) (lists_of (word ∷ words))
 front_end before front word words t = rw t (ended before front (lists_of words) (some_list words))

@@ -1,5 +1,6 @@
 -- Whether what a command came to meets what is expected of it (docs/FORMATS.md, "Tests").
-use Rattle.std.specs.Prelude.{◌≡◌, ℕ, ◌==◌, ◌&&◌, ◌||◌, not, Bool, true, false, nat_eq, codes, List, [], ◌∷◌, map, drop, length}
+use Rattle.std.specs.Prelude.{◌≡◌, ℕ, ◌==◌, ◌&&◌, ◌||◌, not, Bool, true, false, nat_eq, codes, List, [], ◌∷◌, map, drop}
+use Rattle.std.specs.Prelude.{length}
 use Rattle.std.specs.Prelude.{Option, Some, None, filter_map, take, ◌+◌, ◌<◌, ◌⊎◌}
 use Rattle.std.specs.List.{list_all, list_any, slice_index_or, starts_with}
 use denote.Bor.{Bor}

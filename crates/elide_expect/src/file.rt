@@ -4,7 +4,8 @@ ghost use Rattle.std.specs.Prelude.{◌≡◌, ◌&&◌, [], ◌<◌, IfOk, IfSo
 ghost use Rattle.std.specs.List.{list_any, take_while};
 ghost use Rattle.elide_expect.specs.Comments.{comment_content};
 ghost use Rattle.elide_expect.specs.Expectations.{clashes, suits, wanted, wanted_of};
-ghost use Rattle.elide_expect.specs.Tests.{Gives, command_of, expectations_from, expected_content, file_content, file_of};
+ghost use Rattle.elide_expect.specs.Tests.{Gives, command_of, expectations_from, expected_content, file_content};
+ghost use Rattle.elide_expect.specs.Tests.{file_of};
 ghost use Rattle.elide_expect.specs.Tests.{the_wanted, tests_of};
 ghost use Rattle.elide_expect.specs.Tests.{if_suited, program_of, test_content, test_of, tests_in};
 ghost use Rattle.elide_expect.specs.Words.{texts};
@@ -147,7 +148,8 @@ fn command_place(comments: &[Comment<'_>]) -> Option<usize>
 
 // The expectations at the front.
 fn expectations_in<'b, 'a>(comments: &'b [Comment<'a>]) -> &'b [Comment<'a>]
-    ensures { map comment_content result.now ≡ take_while (λ other. not other.is_command) (map comment_content comments.now) }
+    ensures { map comment_content result.now
+        ≡ take_while (λ other. not other.is_command) (map comment_content comments.now) }
 {
     match command_place(comments) {
         Some(at) => &comments[..at],
@@ -193,8 +195,8 @@ fn program_of<'a>(kind: Kind, lines: &[&'a [u8]]) -> Option<Option<&'a [u8]>>
 /// The tests of a file, in the order of its lines.
 ///
 /// Each has one expectation at least, and a command that reads no standard input and is given no path to write to by
-/// `--record`, `--output` or `--page`. [`TestFault::BadTest`] names the first line that cannot be read, by which the file has no
-/// tests at all; [`TestFault::NoMemory`], where the tests found no memory.
+/// `--record`, `--output` or `--page`. [`TestFault::BadTest`] names the first line that cannot be read, by which the
+/// file has no tests at all; [`TestFault::NoMemory`], where the tests found no memory.
 pub fn read_tests<'a>(alloc: Global, text: &'a [u8], kind: Kind) -> Result<TestFile<'a>, TestFault>
     ensures { Gives file_content result (file_of kind text.now) }
 {

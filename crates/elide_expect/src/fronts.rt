@@ -1,8 +1,10 @@
 //! The outcomes that are expected, as the fronts of their lines.
 
-ghost use Rattle.std.specs.Prelude.{◌≡◌, ◌∷◌, ◌++◌, ◌^◌, ◌<◌, ℕ, List, IfNone, IfOk, IfSome, None, [], option_map, map, length, ◌==◌};
+ghost use Rattle.std.specs.Prelude.{◌≡◌, ◌∷◌, ◌++◌, ◌^◌, ◌<◌, ℕ, List, IfNone, IfOk, IfSome, None, [], option_map, map};
+ghost use Rattle.std.specs.Prelude.{length, ◌==◌};
 ghost use Rattle.std.specs.List.{list_all};
-ghost use Rattle.elide_expect.specs.Outcomes.{are_alike, front_of, fronts_of, fronts_with, lists_of, value_in, value_text};
+ghost use Rattle.elide_expect.specs.Outcomes.{are_alike, front_of, fronts_of, fronts_with, lists_of, value_in};
+ghost use Rattle.elide_expect.specs.Outcomes.{value_text};
 ghost use Rattle.elide_expect.specs.Words.{texts};
 
 use crate::words::words_of;
@@ -41,7 +43,8 @@ impl FrontReader {
     }
 
     fn at_end(self, alloc: Global) -> Result<FrontReader, AllocError>
-        ensures fronts { IfOk result (λ next. texts next.fronts.items ≡ texts self.fronts.items ++ self.front.items ∷ []) }
+        ensures fronts { IfOk result
+            (λ next. texts next.fronts.items ≡ texts self.fronts.items ++ self.front.items ∷ []) }
         ensures front { IfOk result (λ next. next.front.items ≡ []) }
     {
         let mut fronts = self.fronts;

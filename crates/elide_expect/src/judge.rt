@@ -1,11 +1,14 @@
 //! Whether what a command came to meets what is expected.
 
-ghost use Rattle.std.specs.Prelude.{◌≡◌, ◌≤◌, ◌∷◌, ℕ, List, true, false, codes, filter_map, IfOk, IfSome, IfNone, length, map, drop, position};
+ghost use Rattle.std.specs.Prelude.{◌≡◌, ◌≤◌, ◌∷◌, ℕ, List, true, false, codes, filter_map, IfOk, IfSome, IfNone};
+ghost use Rattle.std.specs.Prelude.{length, map, drop, position};
 ghost use Rattle.std.specs.List.{cons_option, list_all, list_any};
 ghost use Rattle.ia_lex.specs.Lines.{lines_of};
 ghost use Rattle.elide_expect.specs.Expectations.{wanted};
-ghost use Rattle.elide_expect.specs.Judged.{IsVerdict, are_as_long, are_met, ends_front, finds_none, is_found, is_listed, is_met, is_outcome};
-ghost use Rattle.elide_expect.specs.Judged.{IsFirst, are_each_met, have_lines, in_order, pattern_of, shows, wanted_status};
+ghost use Rattle.elide_expect.specs.Judged.{IsVerdict, are_as_long, are_met, ends_front, finds_none, is_found};
+ghost use Rattle.elide_expect.specs.Judged.{is_listed, is_met, is_outcome};
+ghost use Rattle.elide_expect.specs.Judged.{IsFirst, are_each_met, have_lines, in_order, pattern_of, shows};
+ghost use Rattle.elide_expect.specs.Judged.{wanted_status};
 ghost use Rattle.elide_expect.specs.Patterns.{meets, place_of};
 ghost use Rattle.elide_expect.specs.Tests.{test_content, the_line, the_wanted};
 ghost use Rattle.elide_expect.specs.Words.{texts};

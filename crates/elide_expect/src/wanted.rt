@@ -54,8 +54,8 @@ fn outcomes_of(
     }
 }
 
-/// What a text says that is expected, without blanks round it: `status N`, `line TEXT`, `no failure`, or lists of values
-/// behind `exactly`, `at least` or `never`. None where it says nothing of these.
+/// What a text says that is expected, without blanks round it: `status N`, `line TEXT`, `no failure`, or lists of
+/// values behind `exactly`, `at least` or `never`. None where it says nothing of these.
 #[tactic(auto, unfolding(crate::specs::Expectations::wanted_of))]
 pub fn wanted_of(alloc: Global, text: &[u8]) -> Result<Option<Expectation<'_>>, AllocError>
     ensures { IfOk result (λ expectation. option_map wanted expectation ≡ wanted_of text.now) }

@@ -9,8 +9,8 @@ use elide_args::ExplainOptions;
 use elide_setup::{Gathered, Lent, Refusal};
 use text_out::{Out, WriteFault};
 
-/// Prints what a fault means, by its number or its name; of several of one name, each. Where none is asked for it prints the
-/// numbers and names of all.
+/// Prints what a fault means, by its number or its name; of several of one name, each. Where none is asked for it
+/// prints the numbers and names of all.
 pub fn explain<O: Out>(options: &ExplainOptions<'_>, out: &mut O) -> Result<(), Refusal> {
     let mut page = Gathered::new(Lent::new(out));
     match options.fault {

@@ -1,7 +1,7 @@
 //! The texts of the faults.
 //!
-//! An entry is a line with the fault's number and name, as a command prints them, and lines that are indented: when it is told,
-//! what to do, and an example.
+//! An entry is a line with the fault's number and name, as a command prints them, and lines that are indented: when it
+//! is told, what to do, and an example.
 
 /// The texts, in the order of the numbers.
 pub const FAULTS: [&str; 9] = [

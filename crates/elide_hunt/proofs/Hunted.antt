@@ -23,20 +23,25 @@ use Rattle.elide_hunt.specs.Printed.{AreShortened, IsHunted, IsPlanOf, IsTrialOf
 use Rattle.elide_hunt.specs.Lines.{counts_of}
 use Rattle.elide_hunt.specs.declared.report.Beside.{Beside}
 
-pub with_trial : {E : Type 0} (trial : Trial) (orders : Orders) (text : List ℕ) (file : ProgramFile) (options : HuntOptions) (setup : Setup) (r : Result (Search × Beside) E) →
+pub with_trial : {E : Type 0} (trial : Trial) (orders : Orders) (text : List ℕ) (file : ProgramFile)
+    (options : HuntOptions) (setup : Setup) (r : Result (Search × Beside) E) →
     IfOk r (λ made. IsHunted trial orders made.1 made.0) →
-    trial.program.now ≡ setup.program → trial.limits ≡ setup.limits → trial.most ≡ orders.most → AreChecks text file options trial.checks.now →
+    trial.program.now ≡ setup.program → trial.limits ≡ setup.limits → trial.most ≡ orders.most
+    → AreChecks text file options trial.checks.now →
     IfOk r (λ made. (t : Trial) × IsTrialOf text file options setup orders t × IsHunted t orders made.1 made.0)
 with_trial trial orders text file options setup r h program limits most checks =
-    IfOk-weaker r (λ made. IsHunted trial orders made.1 made.0) (λ made. (t : Trial) × IsTrialOf text file options setup orders t × IsHunted t orders made.1 made.0)
+    IfOk-weaker r (λ made. IsHunted trial orders made.1 made.0)
+    (λ made. (t : Trial) × IsTrialOf text file options setup orders t × IsHunted t orders made.1 made.0)
     (λ made hunted. (trial, record { program = program; limits = limits; most = most; checks = checks }, hunted)) h
 
 -- a plan's search
 abbrev pub IsSearched : Trial → Orders → Search → Type 0
-IsSearched trial orders search = (plan : Plan) × IsPlanOf orders trial plan × IsSearch trial (IsPlannedRun plan) orders.first orders.end search
+IsSearched trial orders search =
+    (plan : Plan) × IsPlanOf orders trial plan × IsSearch trial (IsPlannedRun plan) orders.first orders.end search
 
 -- a search that found no failure
-pub none_found : (trial : Trial) (orders : Orders) (beside : Beside) (search : Search) → search.found ≡ None → IsSearched trial orders search →
+pub none_found : (trial : Trial) (orders : Orders) (beside : Beside) (search : Search) → search.found ≡ None
+    → IsSearched trial orders search →
     IsHunted trial orders beside (record { found = None; ended = search.ended; cut = search.cut })
 none_found trial orders beside search is searched = record {
   plan = searched.0;
@@ -49,7 +54,8 @@ none_found trial orders beside search is searched = record {
 }
 
 -- a search whose first failure was shortened
-pub shortened_hunt : (trial : Trial) (orders : Orders) (beside : Beside) (search : Search) (found : Found) (after : Failure) →
+pub shortened_hunt : (trial : Trial) (orders : Orders) (beside : Beside) (search : Search) (found : Found)
+    (after : Failure) →
     search.found ≡ Some found → IsSearched trial orders search → beside.before ≡ counts_of found.failure.picks.items →
     IsFailure trial after → after.check ≡ found.failure.check → cost_told after ≤ cost_told found.failure →
     KeepsKinds found.failure.picks.items after.picks.items → IfSome beside.cycle (IsCycle trial after) →
@@ -62,15 +68,16 @@ shortened_hunt trial orders beside search found after is searched counted fails 
   came_to = searched.2;
   ended = refl;
   cut = refl;
-  found = subst (λ (o : Option Found). AreShortened trial beside o (Some (record { run = found.run; failure = after }))) (sym is) (
-    refl,
-    record {
-      fails = fails;
-      same = same;
-      counted = counted;
-      simpler = le_trans simpler (cost_front found.failure.front found.failure.picks.items);
-      kinds = keeps;
-      round = round;
-    },
-  );
+  found = subst (λ (o : Option Found). AreShortened trial beside o (Some (record { run = found.run; failure = after })))
+      (sym is) (
+        refl,
+        record {
+          fails = fails;
+          same = same;
+          counted = counted;
+          simpler = le_trans simpler (cost_front found.failure.front found.failure.picks.items);
+          kinds = keeps;
+          round = round;
+        },
+      );
 }

@@ -70,9 +70,10 @@ impl Answer {
     }
 }
 
-/// Makes the runs that the method draws, by their numbers, until one fails, shortens its schedule, writes it and its page where
-/// that is asked for, and prints what came about. Answers whether a run failed and what became of its page, and gives the device
-/// back. Where the page cannot be written that is the refusal, and what came about is printed before.
+/// Makes the runs that the method draws, by their numbers, until one fails, shortens its schedule, writes it and its
+/// page where that is asked for, and prints what came about. Answers whether a run failed and what became of its page,
+/// and gives the device back. Where the page cannot be written that is the refusal, and what came about is printed
+/// before.
 pub fn hunt<R: Threads + Sync + AllocGlobal, P: Paths, O: Out + Drop, G: Progress, W: Pages>(
     rt: &R,
     options: &HuntOptions<'_>,
@@ -210,11 +211,13 @@ fn hunted<R: Threads + Sync + AllocGlobal, G: Progress>(
     text: &[u8],
     progress: &mut G,
 ) -> Result<(Search, Beside), Refusal>
-    ensures hunted { IfOk result (λ made. (file : ProgramFile) × (setup : Setup) × (trial : Trial) × IsFile text.now file
+    ensures hunted { IfOk result
+        (λ made. (file : ProgramFile) × (setup : Setup) × (trial : Trial) × IsFile text.now file
         × IsSetup file settings.now setup × IsTrialOf text.now file options.now setup orders.now trial
         × IsHunted trial orders.now made.1 made.0) }
     ensures refused { (content : List ℕ → Option (List ℕ)) (are_one : List ℕ → List ℕ → Option Bool) →
-        Gives (content options.now.machine.file.now) most_bytes text.now → AreSettings options.now.machine settings.now →
+        Gives (content options.now.machine.file.now) most_bytes text.now
+        → AreSettings options.now.machine settings.now →
         AreOrders options.now orders.now → IfErr result (IsRefused content are_one options.now) }
 {
     let alloc = rt.alloc();

@@ -8,7 +8,8 @@ ghost use Rattle.std.specs.Prelude.{◌≡◌, ◌+◌, ◌≤◌, ◌++◌, OnO
 ghost use Rattle.arrayvec.specs.ArrayVec.{array_vec_len};
 ghost use Rattle.text_out.specs.Writing.{Wrote};
 ghost use Rattle.elide_hunt.specs.Lines.{check_text, counts_line, counts_of, counts_text, deciding_text};
-ghost use Rattle.elide_hunt.specs.Lines.{events_text, failure_text, front_text, none_line, run_front, search_text, some_text};
+ghost use Rattle.elide_hunt.specs.Lines.{events_text, failure_text, front_text, none_line, run_front, search_text};
+ghost use Rattle.elide_hunt.specs.Lines.{some_text};
 
 use crate::cycle::put_cycle;
 use crate::replay::put_line;

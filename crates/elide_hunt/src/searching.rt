@@ -22,9 +22,9 @@ const FIRST_SHARE: u32 = 16;
 
 const MOST_SHARE: u32 = 4096;
 
-/// Makes the runs that are asked for by a plan until one fails, each thread a share of runs side by side. Of the runs that fail
-/// the one with the lowest number is told, and those with a lower one are counted, so that the answer does not depend
-/// on the threads. What is told is what that run comes to when it is made once more.
+/// Makes the runs that are asked for by a plan until one fails, each thread a share of runs side by side. Of the runs
+/// that fail the one with the lowest number is told, and those with a lower one are counted, so that the answer does
+/// not depend on the threads. What is told is what that run comes to when it is made once more.
 pub fn searched<R: Threads + Sync + AllocGlobal, G: Progress>(
     rt: &R,
     trial: &Trial<'_>,

@@ -87,7 +87,8 @@ fn send_failure<S: Serializer>(
     failure: &Option<FailureObject<'_, '_>>,
     out: &mut S,
 ) -> Result<(), S::Error>
-    ensures { OnOk result (SendsMember (codes "failure") (failure_of failure.now) (S.written out.old) (S.written out.new)) }
+    ensures { OnOk result
+        (SendsMember (codes "failure") (failure_of failure.now) (S.written out.old) (S.written out.new)) }
 {
     out.key("failure")?;
     match failure {
@@ -120,7 +121,8 @@ fn send_check<S: Serializer>(
     check: usize,
     out: &mut S,
 ) -> Result<(), S::Error>
-    ensures { OnOk result (SendsMember (codes "check") (check_value options.now check) (S.written out.old) (S.written out.new)) }
+    ensures { OnOk result
+        (SendsMember (codes "check") (check_value options.now check) (S.written out.old) (S.written out.new)) }
 {
     out.key("check")?;
     if let Some(text) = options.checks.get(check) {
@@ -140,7 +142,8 @@ fn send_check<S: Serializer>(
 }
 
 fn send_option<S: Serializer>(name: &str, text: Option<&str>, out: &mut S) -> Result<(), S::Error>
-    ensures { OnOk result (SendsValue (option_value name.now (text_value (option_copied text.entry))) (S.written out.old)
+    ensures { OnOk result
+        (SendsValue (option_value name.now (text_value (option_copied text.entry))) (S.written out.old)
         (S.written out.new)) }
 {
     out.begin_map(Some(2))?;
@@ -177,7 +180,8 @@ fn send_cycle<S: Serializer>(
     picks: &[Pick],
     out: &mut S,
 ) -> Result<(), S::Error>
-    ensures { OnOk result (SendsMember (codes "cycle") (cycle_value picks.now cycle) (S.written out.old) (S.written out.new)) }
+    ensures { OnOk result
+        (SendsMember (codes "cycle") (cycle_value picks.now cycle) (S.written out.old) (S.written out.new)) }
 {
     out.key("cycle")?;
     match cycle {
@@ -188,7 +192,8 @@ fn send_cycle<S: Serializer>(
 
 // Sends a loop of a run of these steps.
 fn send_told<S: Serializer>(cycle: Cycle, picks: &[Pick], out: &mut S) -> Result<(), S::Error>
-    ensures { OnOk result (SendsValue (told_cycle cycle (loop_of picks.now cycle)) (S.written out.old) (S.written out.new)) }
+    ensures { OnOk result
+        (SendsValue (told_cycle cycle (loop_of picks.now cycle)) (S.written out.old) (S.written out.new)) }
 {
     out.begin_map(Some(3))?;
     send_number("start", cycle.start as u64, out)?;
@@ -199,7 +204,8 @@ fn send_told<S: Serializer>(cycle: Cycle, picks: &[Pick], out: &mut S) -> Result
 
 // Sends the steps, where they are few.
 fn send_loop<S: Serializer>(steps: &[Pick], out: &mut S) -> Result<(), S::Error>
-    ensures { OnOk result (SendsMember (codes "schedule") (loop_value steps.now) (S.written out.old) (S.written out.new)) }
+    ensures { OnOk result
+        (SendsMember (codes "schedule") (loop_value steps.now) (S.written out.old) (S.written out.new)) }
 {
     if steps.len() > MOST_TOLD {
         out.key("schedule")?;

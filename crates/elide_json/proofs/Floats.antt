@@ -15,7 +15,8 @@ use Rattle.elide_json.specs.Memory.{dump_row, show_row}
 use Rattle.elide_json.specs.Objects.{running_value, status_member}
 use Rattle.elide_json.specs.Outcomes.{outcome_value}
 use Rattle.elide_json.specs.Shown.{sent_members, sent_replay, sent_run, sent_threads}
-use Rattle.elide_json.specs.Words.{number_or_null, outcome_event, outcome_status, outcome_stop, state_stop, word_or_null}
+use Rattle.elide_json.specs.Words.{number_or_null, outcome_event, outcome_status, outcome_stop, state_stop}
+use Rattle.elide_json.specs.Words.{word_or_null}
 use Rattle.elide_json.specs.declared.objects.ReplayObject.{ReplayObject}
 use Rattle.elide_json.specs.declared.objects.RunEnd.{RunEnd}
 use Rattle.elide_json.specs.declared.objects.Shown.{Shown}
@@ -34,7 +35,8 @@ unfolding outcome_value
 no_float_outcome step core outcome =
     no_float_both (has_float (word_or_null (outcome_stop outcome))) _ (no_float_word (outcome_stop outcome))
     (no_float_both (has_float (number_or_null (outcome_status outcome))) _ (no_float_number (outcome_status outcome))
-    (no_float_both (has_float (word_or_null (outcome_event outcome))) false (no_float_word (outcome_event outcome)) refl))
+    (no_float_both (has_float (word_or_null (outcome_event outcome))) false
+    (no_float_word (outcome_event outcome)) refl))
 
 pub no_float_core : (core : ℕ) (state : CoreState) (regs : Regs) → has_float (core_object core state regs) ≡ false
 unfolding core_object
@@ -45,7 +47,8 @@ no_float_core core state regs =
 
 no_float_cores : (machine : Machine) → has_float (cores_value machine) ≡ false
 no_float_cores machine =
-    no_float_items (core_value machine) (λ core. no_float_core core (view_at machine core).mode (view_at machine core).regs)
+    no_float_items (core_value machine)
+    (λ core. no_float_core core (view_at machine core).mode (view_at machine core).regs)
     (range_with_len 0 (length machine.views))
 
 no_float_running : (running : Option (List ℕ)) → has_float (running_value running) ≡ false
@@ -65,7 +68,8 @@ no_float_shown shown others none =
 pub no_float_run : (o : RunEnd) → has_float (sent_run o) ≡ false
 no_float_run o =
     no_float_shown o.shown (member (codes "running") (running_value (option_copied o.running)) (status_member o.status))
-    (no_float_both (has_float (running_value (option_copied o.running))) false (no_float_running (option_copied o.running)) refl)
+    (no_float_both (has_float (running_value (option_copied o.running))) false
+    (no_float_running (option_copied o.running)) refl)
 
 pub no_float_replay : (o : ReplayObject) → has_float (sent_replay o) ≡ false
 no_float_replay o = no_float_shown o.shown (member (codes "agree") (boolean o.agrees) (status_member o.status)) refl

@@ -1,5 +1,6 @@
 -- Lists that are sent, or made, an item after another.
-use Rattle.std.proofs.Common.{◌≡◌, ◌∙◌, ℕ, zero, suc, ◌+◌, ◌<◌, List, [], ◌∷◌, ◌++◌, Some, ap, arith, rules, get_or, length, map, map-id, refl, subst, sym, take, zero-add}
+use Rattle.std.proofs.Common.{◌≡◌, ◌∙◌, ℕ, zero, suc, ◌+◌, ◌<◌, List, [], ◌∷◌, ◌++◌, Some, ap, arith, rules, get_or}
+use Rattle.std.proofs.Common.{length, map, map-id, refl, subst, sym, take, zero-add}
 use Rattle.std.proofs.lemmas.List.{take_more}
 use Rattle.std.proofs.lemmas.List.FromFn.{map-range_with_len_more}
 use Rattle.std.proofs.lemmas.Slice.Zip.{get_or-zip}
@@ -12,12 +13,14 @@ use Rattle.elide_object.specs.Object.{items_of, list_value}
 
 pub numbers_more : (count : ℕ) → range_with_len 0 (count + 1) ≡ range_with_len 0 count ++ count ∷ []
 numbers_more count =
-    sym (map-id (range_with_len 0 (count + 1))) ∙ map-range_with_len_more (λ number. number) 0 count count (zero-add count)
+    sym (map-id (range_with_len 0 (count + 1)))
+    ∙ map-range_with_len_more (λ number. number) 0 count count (zero-add count)
     ∙ ap (λ numbers. numbers ++ count ∷ []) (map-id (range_with_len 0 count))
 
 -- one number more was sent
 pub each_more : (value_of : ℕ → Data) (count : ℕ) (old mid new : Log) →
-    WritesEach (λ number. SendsValue (value_of number)) (range_with_len 0 count) old mid → SendsValue (value_of count) mid new →
+    WritesEach (λ number. SendsValue (value_of number)) (range_with_len 0 count) old mid
+    → SendsValue (value_of count) mid new →
     WritesEach (λ number. SendsValue (value_of number)) (range_with_len 0 (count + 1)) old new
 each_more value_of count old mid new each sent =
     subst (λ numbers. WritesEach (λ number. SendsValue (value_of number)) numbers old new) (sym (numbers_more count))
@@ -25,7 +28,8 @@ each_more value_of count old mid new each sent =
 
 -- all were
 pub seq_of : {A : Type 0} (value_of : A → Data) (xs : List A) (n : ℕ) (old first last new : Log) → n ≡ length xs →
-    Logs old first (seq_begins (Some n)) → WritesEach (λ x. SendsValue (value_of x)) xs first last → Logs last new seq_ends →
+    Logs old first (seq_begins (Some n)) → WritesEach (λ x. SendsValue (value_of x)) xs first last
+    → Logs last new seq_ends →
     WritesSeq (λ x. SendsValue (value_of x)) xs old new
 seq_of value_of xs n old first last new same begun each ended =
     (first, last, subst (λ (m : ℕ). Logs old first (seq_begins (Some m))) same begun, each, ended)
@@ -35,7 +39,8 @@ map_snoc f [] x = refl
 map_snoc f (y ∷ xs) x = ap (λ l. f y ∷ l) (map_snoc f xs x)
 
 -- one row more, of the next thing
-pub rows_more : {Row A B : Type 0} (row_of : Row → B) (value_of : A → B) (rows : List Row) (row : Row) (xs : List A) (i : ℕ) (x : A) →
+pub rows_more : {Row A B : Type 0} (row_of : Row → B) (value_of : A → B) (rows : List Row) (row : Row) (xs : List A)
+    (i : ℕ) (x : A) →
     i < length xs → x ≡ get_or xs i x → row_of row ≡ value_of x → map row_of rows ≡ map value_of (take i xs) →
     map row_of (rows ++ row ∷ []) ≡ map value_of (take (i + 1) xs)
 rows_more row_of value_of rows row xs i x within is same before =
@@ -60,12 +65,15 @@ within_zip : {A C : Type 0} (xs : List A) (ys : List C) (i : ℕ) → i < length
 within_zip [] ys i h k = absurd (omega (arith, h))
 within_zip (x ∷ xs) [] i h k = absurd (omega (arith, k))
 within_zip (x ∷ xs) (y ∷ ys) zero h k = omega arith
-within_zip (x ∷ xs) (y ∷ ys) (suc i) h k = let more = within_zip xs ys i (omega (arith, h)) (omega (arith, k)) in omega (arith, more)
+within_zip (x ∷ xs) (y ∷ ys) (suc i) h k =
+    let more = within_zip xs ys i (omega (arith, h)) (omega (arith, k)) in omega (arith, more)
 
 -- one row more, of the next two things
-pub rows_zip : {Row A C B : Type 0} (row_of : Row → B) (value_of : A × C → B) (rows : List Row) (row : Row) (xs : List A) (ys : List C) (i : ℕ) (d : A) (e : C) →
+pub rows_zip : {Row A C B : Type 0} (row_of : Row → B) (value_of : A × C → B) (rows : List Row) (row : Row)
+    (xs : List A) (ys : List C) (i : ℕ) (d : A) (e : C) →
     i < length xs → i < length ys → row_of row ≡ value_of (get_or xs i d, get_or ys i e) →
-    map row_of rows ≡ map value_of (take i (zip xs ys)) → map row_of (rows ++ row ∷ []) ≡ map value_of (take (i + 1) (zip xs ys))
+    map row_of rows ≡ map value_of (take i (zip xs ys))
+    → map row_of (rows ++ row ∷ []) ≡ map value_of (take (i + 1) (zip xs ys))
 rows_zip row_of value_of rows row xs ys i d e within also same before =
     let long = within_zip xs ys i within also in
     let pair = get_or (zip xs ys) i (d, e) in

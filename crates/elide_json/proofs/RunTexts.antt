@@ -1,5 +1,6 @@
 -- The text of a run's object is that of its parts, one behind the other.
-use Rattle.std.proofs.Common.{◌≡◌, ◌≤◌, ◌∙◌, Bool, true, false, List, [], ◌∷◌, ◌++◌, codes, ℕ, ◌+◌, add-zero, ap, append_assoc, arith, length, nat_lt, refl, sym}
+use Rattle.std.proofs.Common.{◌≡◌, ◌≤◌, ◌∙◌, Bool, true, false, List, [], ◌∷◌, ◌++◌, codes, ℕ, ◌+◌, add-zero, ap}
+use Rattle.std.proofs.Common.{append_assoc, arith, length, nat_lt, refl, sym}
 use Rattle.std.proofs.lemmas.Bool.Decides.{nat_tests}
 use Rattle.std.proofs.lemmas.Fmt.{decimal_digit}
 use Rattle.std.specs.Fmt.{decimal}
@@ -11,7 +12,8 @@ use Rattle.serde_json.specs.Data.{Data, Members, member, object}
 use Rattle.serde_json.specs.Written.{comma_if, compact_text, items_text, members_text}
 use Rattle.tm_model.specs.declared.outcome.Outcome.{Outcome}
 use Rattle.tm_model.specs.declared.outcome.Pick.{Pick}
-use Rattle.elide_json.specs.Outcomes.{outcomes_value, row_text, rows_text, run_back, run_front, run_rows, run_value, step_value}
+use Rattle.elide_json.specs.Outcomes.{outcomes_value, row_text, rows_text, run_back, run_front, run_rows, run_value}
+use Rattle.elide_json.specs.Outcomes.{step_value}
 
 -- a step behind others is not the first
 is_later : (before : ℕ) → nat_lt 1 (before + 1 + 1) ≡ true
@@ -27,7 +29,8 @@ rows_are before (step ∷ steps) =
     let others = items_of step_value (enumerate_from (before + 1 + 1) steps) in
     append_assoc row (rows_text (before + 1) steps) (93 ∷ [])
     ∙ ap (λ l. row ++ l) (rows_are (before + 1) steps ∙ ap (λ later. items_text later others) (is_later before))
-    ∙ append_assoc (comma_if (nat_lt 1 (before + 1))) (compact_text (step_value (before + 1, step))) (items_text true others)
+    ∙ append_assoc (comma_if (nat_lt 1 (before + 1))) (compact_text (step_value (before + 1, step)))
+    (items_text true others)
 
 -- the rows of steps behind others
 pub rows_behind : (before : ℕ) (first rest : List (Pick × Outcome)) →
@@ -42,7 +45,8 @@ rows_behind before (step ∷ steps) rest =
 
 behind_list : (steps : List (Pick × Outcome)) (name : List ℕ) (value : Data) (others : Members) →
     rows_text 0 steps ++ run_back true (member name value others)
-    ≡ (items_text false (items_of step_value (enumerate_from 1 steps)) ++ members_text true (member name value others)) ++ line_end
+    ≡ (items_text false (items_of step_value (enumerate_from 1 steps)) ++ members_text true (member name value others))
+    ++ line_end
 unfolding object_text
 behind_list steps name value others =
     let more = members_text true (member name value others) in
@@ -61,7 +65,8 @@ unfolding run_front run_value object_text serde_json_on_literals
 run_text true steps name value others =
     ap (λ l. codes "{\"format\":1,\"command\":\"run\",\"outcomes\":[" ++ l) (behind_list steps name value others)
     ∙ ap (λ digits. (codes "{\"format\":" ++ (digits ++ (codes ",\"command\":\"run\",\"outcomes\":["
-    ++ (items_text false (items_of step_value (enumerate_from 1 steps)) ++ members_text true (member name value others))))) ++ line_end) one
+    ++ (items_text false (items_of step_value (enumerate_from 1 steps))
+    ++ members_text true (member name value others))))) ++ line_end) one
 run_text false steps name value others =
     ap (λ digits. (codes "{\"format\":" ++ (digits ++ (codes ",\"command\":\"run\",\"outcomes\":null"
     ++ members_text true (member name value others)))) ++ line_end) one

@@ -20,10 +20,14 @@ pub shown_same : (shown : Shown) (machine : Machine) (parts : MemoryParts) (text
 shown_same shown machine parts texts rows is dumps shows are others =
     let cores = cores_value shown.machine.now in
     let parts_same : list_value dump_row shown.dumps.now ≡ dumps_value machine.memory parts.dumps.items =
-    ap (list_value dump_row) dumps ∙ list_by dump_row (dump_at machine.memory) rows.dumps.items parts.dumps.items are.dumps in
+    ap (list_value dump_row) dumps
+    ∙ list_by dump_row (dump_at machine.memory) rows.dumps.items parts.dumps.items are.dumps in
     let values_same : list_value show_row shown.shows.now ≡ shows_value machine.memory texts parts.values.items =
-    ap (list_value show_row) shows ∙ list_by show_row (show_at machine.memory) rows.shows.items (zip texts parts.values.items) are.shows in
-    ap (λ (c : Data). three_members c (list_value dump_row shown.dumps.now) (list_value show_row shown.shows.now) others)
+    ap (list_value show_row) shows
+    ∙ list_by show_row (show_at machine.memory) rows.shows.items (zip texts parts.values.items) are.shows in
+    ap
+    (λ (c : Data). three_members c (list_value dump_row shown.dumps.now) (list_value show_row shown.shows.now) others)
     (ap cores_value is)
     ∙ ap (λ (d : Data). three_members (cores_value machine) d (list_value show_row shown.shows.now) others) parts_same
-    ∙ ap (λ (d : Data). three_members (cores_value machine) (dumps_value machine.memory parts.dumps.items) d others) values_same
+    ∙ ap (λ (d : Data). three_members (cores_value machine) (dumps_value machine.memory parts.dumps.items) d others)
+    values_same

@@ -7,7 +7,8 @@ use Rattle.serde_json.specs.Data.{Data, Members, member, no_members, null, objec
 use Rattle.serde_json.specs.Written.{comma_if, compact_text}
 use Rattle.tm_model.specs.declared.outcome.Outcome.{Outcome}
 use Rattle.tm_model.specs.declared.outcome.Pick.{Pick}
-use Rattle.elide_json.specs.Words.{number_or_null, outcome_event, outcome_name, outcome_status, outcome_stop, word_or_null}
+use Rattle.elide_json.specs.Words.{number_or_null, outcome_event, outcome_name, outcome_status, outcome_stop}
+use Rattle.elide_json.specs.Words.{word_or_null}
 
 -- the outcome of the step of this number, which was this core's
 unfoldable pub outcome_value : ℕ → ℕ → Outcome → Data

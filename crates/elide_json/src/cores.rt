@@ -7,7 +7,8 @@ ghost use Rattle.std.specs.Prelude.{◌≡◌, ◌≤◌, ◌<◌, ◌+◌, ◌+
 ghost use Rattle.arrayvec.specs.ArrayVec.{array_vec_len};
 ghost use Rattle.elide_object.specs.Object.{SendsMember};
 ghost use Rattle.serde_json.specs.Events.{SendsValue};
-ghost use Rattle.elide_json.specs.Cores.{core_object, core_value, cores_value, flag_names, named_if, regs_members, state_members};
+ghost use Rattle.elide_json.specs.Cores.{core_object, core_value, cores_value, flag_names, named_if, regs_members};
+ghost use Rattle.elide_json.specs.Cores.{state_members};
 ghost use Rattle.elide_json.specs.Sent.{SendsFront};
 
 use crate::words::{depth_of, name_of_state, send_word, stop_of_state};
@@ -23,7 +24,8 @@ type Names = ArrayVec<&'static str, 6>;
 
 /// Sends the cores of a machine, in the order of their numbers.
 pub fn send_cores<S: Serializer>(machine: &Machine, out: &mut S) -> Result<(), S::Error>
-    ensures { OnOk result (SendsMember (codes "cores") (cores_value machine.now) (S.written out.old) (S.written out.new)) }
+    ensures { OnOk result
+        (SendsMember (codes "cores") (cores_value machine.now) (S.written out.old) (S.written out.new)) }
 {
     out.key("cores")?;
     send_list(machine, out)
@@ -103,7 +105,8 @@ fn names_of(flags: Flags) -> Names
 // Adds a name, where its flag is set.
 fn push_name(names: &mut Names, is_set: bool, name: &'static str)
     requires { array_vec_len names.old < 6 }
-    ensures names { map (λ name. name.now) names.new.items ≡ map (λ name. name.now) names.old.items ++ named_if is_set name.now }
+    ensures names { map (λ name. name.now) names.new.items
+        ≡ map (λ name. name.now) names.old.items ++ named_if is_set name.now }
     ensures len { array_vec_len names.new ≤ array_vec_len names.old + 1 }
 {
     if is_set {

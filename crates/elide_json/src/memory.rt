@@ -4,7 +4,8 @@
 //! `OutOfRange`, before a byte is sent. [`send_dumps`] and [`send_shows`] send them. Where a sum leads to was found out
 //! when the program was loaded; the text that asked for it is told as it was given.
 
-ghost use Rattle.std.specs.Prelude.{◌≡◌, ◌+◌, ◌≤◌, ◌++◌, ◌∷◌, [], IfErr, IfOk, OnOk, codes, false, length, map, slice_range, string_bytes};
+ghost use Rattle.std.specs.Prelude.{◌≡◌, ◌+◌, ◌≤◌, ◌++◌, ◌∷◌, [], IfErr, IfOk, OnOk, codes, false, length, map};
+ghost use Rattle.std.specs.Prelude.{slice_range, string_bytes};
 ghost use Rattle.std.specs.List.{list_all, zip};
 ghost use Rattle.elide_object.specs.Object.{SendsMember, list_value};
 ghost use Rattle.elide_setup.specs.Shown.{are_held, doubleword, is_dump_held, is_value_held};
@@ -51,8 +52,8 @@ pub struct Rows {
 }
 
 impl Rows {
-    /// Those of a memory, whose doublewords were asked for by these texts. Refused where one passes the memory's end, and for want
-    /// of memory.
+    /// Those of a memory, whose doublewords were asked for by these texts. Refused where one passes the memory's end,
+    /// and for want of memory.
     pub fn of_memory(
         alloc: Global,
         memory: &[u8],
@@ -102,7 +103,8 @@ fn show_rows(
     texts: &[&str],
     addresses: &[u32],
 ) -> Result<Vec<ShowRow>, Refusal>
-    ensures rows { IfOk result (λ rows. map show_row rows.items ≡ map (show_at memory.now) (zip texts.now addresses.now)) }
+    ensures rows { IfOk result
+        (λ rows. map show_row rows.items ≡ map (show_at memory.now) (zip texts.now addresses.now)) }
     ensures refused { IfErr result (IsNoRow (list_all (is_value_held (length memory.now)) addresses.now)) }
 {
     let mut rows = Vec::new(alloc);
@@ -145,7 +147,8 @@ fn value_at(memory: &[u8], address: u32) -> Result<u32, Refusal>
 
 /// Sends the parts of a memory.
 pub fn send_dumps<S: Serializer>(rows: &[DumpRow], out: &mut S) -> Result<(), S::Error>
-    ensures { OnOk result (SendsMember (codes "dump") (list_value dump_row rows.now) (S.written out.old) (S.written out.new)) }
+    ensures { OnOk result
+        (SendsMember (codes "dump") (list_value dump_row rows.now) (S.written out.old) (S.written out.new)) }
 {
     out.key("dump")?;
     send_dump_list(rows, out)
@@ -172,7 +175,8 @@ fn send_dump<S: Serializer>(row: &DumpRow, out: &mut S) -> Result<(), S::Error>
 
 /// Sends the doublewords of a memory.
 pub fn send_shows<S: Serializer>(rows: &[ShowRow], out: &mut S) -> Result<(), S::Error>
-    ensures { OnOk result (SendsMember (codes "show") (list_value show_row rows.now) (S.written out.old) (S.written out.new)) }
+    ensures { OnOk result
+        (SendsMember (codes "show") (list_value show_row rows.now) (S.written out.old) (S.written out.new)) }
 {
     out.key("show")?;
     send_show_list(rows, out)

@@ -70,7 +70,8 @@ impl Serialize for RunEnd<'_> {
 }
 
 fn send_running<S: Serializer>(running: Option<&[u32]>, out: &mut S) -> Result<(), S::Error>
-    ensures { OnOk result (SendsMember (codes "running") (running_value (option_copied running.entry)) (S.written out.old)
+    ensures { OnOk result
+        (SendsMember (codes "running") (running_value (option_copied running.entry)) (S.written out.old)
         (S.written out.new)) }
 {
     match running {
@@ -181,8 +182,8 @@ pub fn put_threads<O: Out>(
     put(line.as_bytes(), out)
 }
 
-/// Writes what stands behind the outcomes of a run, which were a list where they are asked for: the machine, the cores that have not
-/// stopped, where it is expected that all do, and the exit status.
+/// Writes what stands behind the outcomes of a run, which were a list where they are asked for: the machine, the cores
+/// that have not stopped, where it is expected that all do, and the exit status.
 pub fn put_back<O: Out>(
     alloc: Global,
     traces: bool,

@@ -64,7 +64,8 @@ fn opening(traces: bool) -> &'static [u8]
     if traces { b"[" } else { b"null" }
 }
 
-/// Writes the outcome of the step of this number, from 1, which was this core's, behind a comma where others stand before it.
+/// Writes the outcome of the step of this number, from 1, which was this core's, behind a comma where others stand
+/// before it.
 pub fn put_outcome<O: Out>(
     alloc: Global,
     step: u64,

@@ -20,7 +20,8 @@ pub fn send_word<S: Serializer>(
     word: Option<&'static str>,
     out: &mut S,
 ) -> Result<(), S::Error>
-    ensures { OnOk result (SendsMember name.now (word_or_null (option_copied word.entry)) (S.written out.old) (S.written out.new)) }
+    ensures { OnOk result
+        (SendsMember name.now (word_or_null (option_copied word.entry)) (S.written out.old) (S.written out.new)) }
 {
     out.key(name)?;
     match word {

@@ -32,10 +32,12 @@ items_of_texts [] = refl
 items_of_texts (s ∷ texts) = ap (item (string s.now)) (items_of_texts texts)
 
 -- a list of texts, each behind a reference
-pub sent_texts : (texts : List (Bor (List ℕ))) (a b : Log) → WritesSeq (λ s old new. Logs old new (text s.now)) texts a b →
+pub sent_texts : (texts : List (Bor (List ℕ))) (a b : Log)
+    → WritesSeq (λ s old new. Logs old new (text s.now)) texts a b →
     SendsValue (text_list (map (λ s. s.now) texts)) a b
 sent_texts texts a b seq =
-    let sent : SendsValue (list_value (λ (s : Bor (List ℕ)). string s.now) texts) a b = sent_list (λ (s : Bor (List ℕ)). string s.now) texts a b seq in
+    let sent : SendsValue (list_value (λ (s : Bor (List ℕ)). string s.now) texts) a b =
+    sent_list (λ (s : Bor (List ℕ)). string s.now) texts a b seq in
     subst (λ (items : Items). SendsValue (array items) a b) (items_of_texts texts) sent
 
 -- a member of an object, before the others

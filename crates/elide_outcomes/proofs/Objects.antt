@@ -13,7 +13,8 @@ use Rattle.tm_outcomes.specs.declared.stops.ReachedStop.{ReachedStop}
 use Rattle.tm_outcomes.specs.declared.stuck.Stuck.{Stuck}
 use Rattle.tm_outcomes.specs.declared.table.Told.{Told}
 use Rattle.tm_outcomes.specs.declared.violations.Violation.{Violation}
-use Rattle.elide_outcomes.specs.Object.{check_value, cycle_value, forbid_value, option_value, outcome_value, search_value, stop_value}
+use Rattle.elide_outcomes.specs.Object.{check_value, cycle_value, forbid_value, option_value, outcome_value}
+use Rattle.elide_outcomes.specs.Object.{search_value, stop_value}
 use Rattle.elide_outcomes.specs.Object.{stuck_value, violation_value}
 
 no_float_outcome : (told : Told) → has_float (outcome_value told) ≡ false
@@ -76,7 +77,8 @@ no_float_search options show status search =
     let stops = items_have_float (items_of stop_value search.stops.items) in
     let stuck = has_float (stuck_value search.stuck) in
     let cycle = has_float (cycle_value search.cycle) in
-    no_float_both (items_have_float (items_of string show)) (outcomes || (violations || (stops || (stuck || (cycle || false)))))
+    no_float_both (items_have_float (items_of string show))
+    (outcomes || (violations || (stops || (stuck || (cycle || false)))))
     (no_float_items string (λ text. refl) show)
     (no_float_both outcomes (violations || (stops || (stuck || (cycle || false))))
     (no_float_items outcome_value no_float_outcome search.outcomes.items)

@@ -9,12 +9,15 @@ use Rattle.elide_outcomes.specs.Printed.{AreWritten, IsPrinted, IsTold, IsWritte
 use Rattle.elide_outcomes.specs.declared.found.Found.{Found}
 use Rattle.elide_outcomes.specs.declared.verdict.Answer.{Answer}
 
-passed_on : (first begun ended last : Option (List ℕ)) (text : List ℕ) → Keeps first begun → Appends begun ended text → Keeps ended last → Appends first last text
+passed_on : (first begun ended last : Option (List ℕ)) (text : List ℕ) → Keeps first begun → Appends begun ended text
+    → Keeps ended last → Appends first last text
 passed_on first begun ended last text before wrote behind =
     subst (Appends first last) (append-nil text)
-    (appends_then first ended last text _ (appends_then first begun ended _ text (appends_same first begun before) wrote) (appends_same ended last behind))
+    (appends_then first ended last text _
+    (appends_then first begun ended _ text (appends_same first begun before) wrote) (appends_same ended last behind))
 
-words_on : (options : OutcomesOptions) (words : List (List ℕ)) (found : Found) (first begun ended last : Option (List ℕ)) →
+words_on : (options : OutcomesOptions) (words : List (List ℕ)) (found : Found)
+    (first begun ended last : Option (List ℕ)) →
     Keeps first begun → AreWritten options words found begun ended → Keeps ended last →
     AreWritten options words found first last
 words_on options words found first begun ended last before written behind = record {

@@ -18,7 +18,8 @@ err_weaker (Ok x) Q Q' g h = tt
 err_weaker (Err y) Q Q' g h = g y h
 
 -- a text of `--show`
-pub items_refused : (file : ProgramFile) (is_wanted : Bool) (option : Option (List ℕ)) (text : List ℕ) (why : Refusal) → option ≡ Some text →
+pub items_refused : (file : ProgramFile) (is_wanted : Bool) (option : Option (List ℕ)) (text : List ℕ) (why : Refusal)
+    → option ≡ Some text →
     (HasNoItem file text × IsMisuse (codes "--show") why) ⊎ (why ≡ want) → AreNoItems file is_wanted option why
 items_refused file is_wanted option text why given (inl h) = no_item text given h.0 h.1
 items_refused file is_wanted option text why given (inr wanting) = no_memory wanting

@@ -35,7 +35,8 @@ IsFoundOfText text settings asked found =
 -- a search of a machine, with the labels of its file
 pub found_of_file : (text : List ℕ) (file : ProgramFile) (settings : Settings) (asked : Asked) (setup : Setup)
     (items : List Item) (checks : List Check) (found : Found) →
-    (trial : Trial) × IsMade setup items checks asked.under asked.stops.now trial × IsSorted trial asked.most found.search →
+    (trial : Trial) × IsMade setup items checks asked.under asked.stops.now trial
+    × IsSorted trial asked.most found.search →
     IsSetup file settings setup →
     AreItems file (not (asks_more asked.options.now)) (option_copied asked.options.now.show) items →
     AreEndChecks text file asked.options.now.checks.items asked.options.now.forbids.items checks →

@@ -61,10 +61,10 @@ pub struct Asked<'a> {
     pub most: u32,
 }
 
-/// Searches all schedules of a program, prints each outcome in the order of its values, and writes the page of one where that
-/// is asked for. While it searches, `progress` is told how many states were found. Answers what the search came to and what
-/// became of the page, and gives the device back. Where there is no such outcome, or its page cannot be written, that is the
-/// refusal, and the outcomes are printed before.
+/// Searches all schedules of a program, prints each outcome in the order of its values, and writes the page of one
+/// where that is asked for. While it searches, `progress` is told how many states were found. Answers what the search
+/// came to and what became of the page, and gives the device back. Where there is no such outcome, or its page cannot
+/// be written, that is the refusal, and the outcomes are printed before.
 pub fn outcomes<P: Paths, O: Out + Drop, G: Progress, W: Pages>(
     alloc: Global,
     options: &OutcomesOptions<'_>,
@@ -189,7 +189,8 @@ fn write_words<O: Out>(
     }
 }
 
-// Searches a program's text. What is made in one of these functions is lent to the next, so that each has little to drop.
+// Searches a program's text. What is made in one of these functions is lent to the next, so that each has little to
+// drop.
 fn search_of_text<G: Progress>(
     alloc: Global,
     asked: &Asked<'_>,
@@ -275,7 +276,8 @@ fn search_of_setup<'x, G: Progress>(
     requires most { 1 ≤ asked.now.most }
     requires under { AreUnder asked.now.under events }
     ensures { MatchResult result
-        (λ search. (trial : Trial) × IsMade setup.now items.now ends.now.checks.items asked.now.under asked.now.stops.now
+        (λ search. (trial : Trial)
+        × IsMade setup.now items.now ends.now.checks.items asked.now.under asked.now.stops.now
         trial × IsSorted trial asked.now.most search)
         (IsNotSearchedBy setup.now items.now ends.now.checks.items asked.now.under asked.now.stops.now) }
 {

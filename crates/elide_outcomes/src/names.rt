@@ -1,7 +1,7 @@
 //! Labels by their addresses.
 //!
-//! Promised: a label that is found stands at its address by the symbols of the file, and its name is told as it is shown
-//! (`specs/Names.antt`). That each label is found is compared by `doc_tests`.
+//! Promised: a label that is found stands at its address by the symbols of the file, and its name is told as it is
+//! shown (`specs/Names.antt`). That each label is found is compared by `doc_tests`.
 
 ghost use Rattle.std.specs.Prelude.{◌≡◌, ◌++◌, ◌∷◌, [], All, IfOk, OnOk, Some, option_map};
 ghost use Rattle.elide_program.specs.ProgramFile.{IsFileSymbol};

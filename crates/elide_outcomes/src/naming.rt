@@ -44,7 +44,8 @@ fn tell_rest<O: Out>(words: &[&str], out: &mut O) -> Result<(), WriteFault>
 
 // What [`tell_rest`] does, word by word.
 fn tell_more<O: Out>(words: &[&str], out: &mut O) -> Result<(), WriteFault>
-    ensures { OnOk result (Wrote (O.device out.old) (O.device out.new) (flat_map (λ word. codes " " ++ word.now) words.now)) }
+    ensures { OnOk result
+        (Wrote (O.device out.old) (O.device out.new) (flat_map (λ word. codes " " ++ word.now) words.now)) }
 {
     for word in words {
         tell_word(word, out)?;
@@ -62,7 +63,8 @@ fn tell_word<O: Out>(word: &str, out: &mut O) -> Result<(), WriteFault>
 
 /// The name of a label, where there is one: a space, and the name between `<` and `>`.
 pub fn tell_name<O: Out>(name: Option<&[u8]>, out: &mut O) -> Result<(), WriteFault>
-    ensures { OnOk result (Wrote (O.device out.old) (O.device out.new) (name_text (option_map (λ n. n.now) name.entry))) }
+    ensures { OnOk result
+        (Wrote (O.device out.old) (O.device out.new) (name_text (option_map (λ n. n.now) name.entry))) }
 {
     let Some(name) = name else {
         return Ok(());

@@ -10,7 +10,8 @@ ghost use Rattle.elide_args.specs.Asked.{texts_of};
 ghost use Rattle.elide_object.specs.Object.{SendsMember, list_value, object_text};
 ghost use Rattle.serde_json.specs.Events.{SendsValue};
 ghost use Rattle.tm_hist.specs.Lines.{stop_word};
-ghost use Rattle.elide_outcomes.specs.Object.{IsObjectWritten, cycle_value, outcome_value, search_value, stop_value, stuck_value};
+ghost use Rattle.elide_outcomes.specs.Object.{IsObjectWritten, cycle_value, outcome_value, search_value, stop_value};
+ghost use Rattle.elide_outcomes.specs.Object.{stuck_value};
 ghost use Rattle.elide_outcomes.specs.Sent.{object_value};
 
 use crate::search_object::SearchObject;
@@ -167,7 +168,8 @@ fn cause_word(why: Stop) -> &'static str
 }
 
 fn send_stuck<S: Serializer>(stuck: &Option<Stuck>, out: &mut S) -> Result<(), S::Error>
-    ensures { OnOk result (SendsMember (codes "stuck") (stuck_value stuck.now) (S.written out.old) (S.written out.new)) }
+    ensures { OnOk result
+        (SendsMember (codes "stuck") (stuck_value stuck.now) (S.written out.old) (S.written out.new)) }
 {
     out.key("stuck")?;
     match stuck {
@@ -186,7 +188,8 @@ fn send_stuck_states<S: Serializer>(stuck: &Stuck, out: &mut S) -> Result<(), S:
 }
 
 fn send_cycle<S: Serializer>(cycle: &Option<Cycle>, out: &mut S) -> Result<(), S::Error>
-    ensures { OnOk result (SendsMember (codes "cycle") (cycle_value cycle.now) (S.written out.old) (S.written out.new)) }
+    ensures { OnOk result
+        (SendsMember (codes "cycle") (cycle_value cycle.now) (S.written out.old) (S.written out.new)) }
 {
     out.key("cycle")?;
     match cycle {

@@ -28,7 +28,8 @@ pub enum PageAsked<'a> {
 }
 
 impl<'a> PageAsked<'a> {
-    /// What the options ask for. `--page` is misused where its number is none from 1 on, or its path that of the program.
+    /// What the options ask for. `--page` is misused where its number is none from 1 on, or its path that of the
+    /// program.
     pub fn read<P: Paths>(
         options: &OutcomesOptions<'a>,
         paths: &mut P,

@@ -11,9 +11,11 @@ ghost use Rattle.text_out.specs.Number.{eight_digits};
 ghost use Rattle.text_out.specs.Writing.{Wrote, Writes};
 ghost use Rattle.std.specs.Fmt.{decimal};
 ghost use Rattle.elide_args.specs.Asked.{texts_of};
-ghost use Rattle.elide_outcomes.specs.Lines.{AreInOrder, count_line, counts_text, cut_text, cycle_line, cycle_lines, cycle_text};
+ghost use Rattle.elide_outcomes.specs.Lines.{AreInOrder, count_line, counts_text, cut_text, cycle_line, cycle_lines};
+ghost use Rattle.elide_outcomes.specs.Lines.{cycle_text};
 ghost use Rattle.elide_outcomes.specs.Lines.{ends_text, has_words};
-ghost use Rattle.elide_outcomes.specs.Lines.{item_text, outcome_line, outcome_lines, search_text, shown_lines, states_text, step_text, stop_line};
+ghost use Rattle.elide_outcomes.specs.Lines.{item_text, outcome_line, outcome_lines, search_text, shown_lines};
+ghost use Rattle.elide_outcomes.specs.Lines.{states_text, step_text, stop_line};
 ghost use Rattle.elide_outcomes.specs.Lines.{stop_lines, stuck_line, stuck_lines, stuck_text, wayless_text};
 
 use crate::named::NamedAddress;
@@ -37,8 +39,8 @@ pub fn sort(outcomes: &mut Vec<Told>)
     outcomes.sort_unstable_by(|left, right| left.values.cmp(&right.values));
 }
 
-/// Prints the outcomes of a search, a line each, below them what is wrong, and then how many there are. Outcomes are told
-/// where something is shown of them, by the words of `--show`; labels by the names of their addresses.
+/// Prints the outcomes of a search, a line each, below them what is wrong, and then how many there are. Outcomes are
+/// told where something is shown of them, by the words of `--show`; labels by the names of their addresses.
 pub fn tell<O: Out>(
     options: &OutcomesOptions<'_>,
     words: &[&str],

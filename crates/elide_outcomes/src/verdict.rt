@@ -16,8 +16,8 @@ pub enum Answer {
     Whole,
     /// The limit on states was reached.
     Cut,
-    /// An end that violates a check was found, a stop that was looked for, or, where it was asked for, a state without a way
-    /// to an end or a cycle that can be made for ever.
+    /// An end that violates a check was found, a stop that was looked for, or, where it was asked for, a state without
+    /// a way to an end or a cycle that can be made for ever.
     Faulty,
 }
 

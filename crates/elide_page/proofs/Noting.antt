@@ -10,7 +10,8 @@ some_behind window some [] = some
 some_behind window some (note ∷ notes) = some_behind window (some_with window some note) notes
 
 pub notes_and : (window : Window) (some : Bool) (notes : List Note) (note : Note) →
-    notes_text window some (notes ++ note ∷ []) ≡ notes_text window some notes ++ piece_text window (some_behind window some notes) note
+    notes_text window some (notes ++ note ∷ [])
+    ≡ notes_text window some notes ++ piece_text window (some_behind window some notes) note
 notes_and window some [] note = append-nil (piece_text window some note)
 notes_and window some (first ∷ notes) note =
     ap (λ t. piece_text window some first ++ t) (notes_and window (some_with window some first) notes note)

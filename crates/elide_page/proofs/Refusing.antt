@@ -61,7 +61,8 @@ file_refused before after why none (lost bytes told_all) (inr told) =
 
 -- ---- the page of a run that was found
 
-pub no_program_of : (text : List ℕ) (options : MachineOptions) (picks : List Pick) (settings : Settings) (why : Refusal) →
+pub no_program_of : (text : List ℕ) (options : MachineOptions) (picks : List Pick) (settings : Settings)
+    (why : Refusal) →
     AreSettings options settings → GivesNoProgram text settings why → IsNotPaged text options picks why
 no_program_of text options picks settings why said (is_none cause h told) = IsNotPaged.no_program cause h told
 no_program_of text options picks settings why said (unloaded file cause read h told) =
@@ -71,9 +72,11 @@ pub not_paged_of : (text : List ℕ) (options : MachineOptions) (picks : List Pi
     (file : ProgramFile) (setup : Setup) (asked : Course) (why : Refusal) → AreSettings options settings →
     IsFile text file → IsSetup file settings setup → listed_in asked ≡ picks → IsNoPage setup asked why →
     IsNotPaged text options picks why
-not_paged_of text options picks settings file setup asked why said read made same (inl (IsNotSurveyed.not_made (IsNotMade.no_machine h))) =
+not_paged_of text options picks settings file setup asked why said read made same
+    (inl (IsNotSurveyed.not_made (IsNotMade.no_machine h))) =
     IsNotPaged.no_machine file settings setup read said made h
-not_paged_of text options picks settings file setup asked why said read made same (inl (IsNotSurveyed.not_made (IsNotMade.no_core h))) =
+not_paged_of text options picks settings file setup asked why said read made same
+    (inl (IsNotSurveyed.not_made (IsNotMade.no_core h))) =
     IsNotPaged.no_core file settings setup read said made
     (subst (λ (l : List Pick). NamesNoCore l (length setup.program.entries) why) same h)
 not_paged_of text options picks settings file setup asked why said read made same (inl (IsNotSurveyed.not_held h)) =

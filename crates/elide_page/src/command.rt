@@ -1,7 +1,8 @@
 //! `elide page`: from its options to a page.
 //!
 //! [`page`] is the one call. Faults come in the order of its steps: `--output`, the page's options, the machine's, the
-//! schedule's, FILE, the schedule's file, the run, the window and the notes. Nothing is written before the run is known to fit.
+//! schedule's, FILE, the schedule's file, the run, the window and the notes. Nothing is written before the run is known
+//! to fit.
 
 ghost use Rattle.std.specs.Prelude.{IfErr, IfOk};
 ghost use Rattle.elide_program.specs.ProgramFile.{IsFile};
@@ -23,8 +24,8 @@ use page_run::{Stretch, Survey, surveyed};
 use std::alloc::Global;
 use text_out::Out;
 
-/// Runs a schedule of core steps, and writes the page of the steps that are asked for: to a file, as a whole or not at all,
-/// where there is a path, and else on the device, which it gives back.
+/// Runs a schedule of core steps, and writes the page of the steps that are asked for: to a file, as a whole or not at
+/// all, where there is a path, and else on the device, which it gives back.
 pub fn page<P: Paths, O: Out + Drop, G: Progress>(
     alloc: Global,
     options: &PageOptions<'_>,
@@ -75,8 +76,8 @@ struct Known<'a> {
     command: &'a [u8],
 }
 
-// Reads the rest of the options, and FILE. What is made in one of these functions is lent to the next, and what owns much is
-// dropped by a call, so that each is proved soon.
+// Reads the rest of the options, and FILE. What is made in one of these functions is lent to the next, and what owns
+// much is dropped by a call, so that each is proved soon.
 fn page_asked<P: Paths, O: Out + Drop, G: Progress>(
     request: Request<'_>,
     paths: &mut P,
@@ -124,7 +125,8 @@ pub fn setup_of(
     settings: &Settings<'_>,
     text: &[u8],
 ) -> Result<(Setup, Form), Refusal>
-    ensures setup { IfOk result (λ made. (file : ProgramFile) × IsFile text.now file × IsSetup file settings.now made.0) }
+    ensures setup { IfOk result
+        (λ made. (file : ProgramFile) × IsFile text.now file × IsSetup file settings.now made.0) }
     ensures none { IfErr result (GivesNoProgram text.now settings.now) }
 {
     let file = ProgramFile::read(alloc, text)?;

@@ -30,8 +30,8 @@ pub struct Shown<'a> {
     pub address: u32,
 }
 
-/// The variables of `--show`, whose values are the addresses of these sums; where there are none, up to six labels on lines
-/// that transactions stored to, or else loaded from.
+/// The variables of `--show`, whose values are the addresses of these sums; where there are none, up to six labels on
+/// lines that transactions stored to, or else loaded from.
 pub fn shown_of<'a>(
     loaded: Loaded<'a>,
     sums: &[&'a str],

@@ -1,5 +1,6 @@
 -- What is shown of a name, and of a row of names.
-use Rattle.std.proofs.Common.{◌≡◌, ℕ, ◌+◌, ◌/◌, ◌<◌, Bool, true, false, not, ◌&&◌, cond, List, [], ◌∷◌, ◌++◌, map, Option, Some, None, IfSome, refl, ◌∙◌, ap, arith}
+use Rattle.std.proofs.Common.{◌≡◌, ℕ, ◌+◌, ◌/◌, ◌<◌, Bool, true, false, not, ◌&&◌, cond, List, [], ◌∷◌, ◌++◌, map}
+use Rattle.std.proofs.Common.{Option, Some, None, IfSome, refl, ◌∙◌, ap, arith}
 use Rattle.std.specs.Prelude.{if◌then◌else◌, ◌==◌, nat_lt, codes}
 use Rattle.std.specs.List.{list_all}
 use Rattle.std.specs.Char.{digit_char, is_ascii_graphic}
@@ -9,7 +10,8 @@ use Rattle.std.proofs.lemmas.Bool.Decides.{nat_tests}
 use Rattle.std.proofs.lemmas.Int.Digits.{all_below_base_digits_of}
 use Rattle.std.proofs.lemmas.List.Folds.{list_all-append}
 use Rattle.text_out.specs.Number.{hex_digits, number}
-use Rattle.elide_places.specs.Shown.{behind_backslash, is_plain, is_printable, letter_of, octal, octal_digit, shown_byte, shown_name}
+use Rattle.elide_places.specs.Shown.{behind_backslash, is_plain, is_printable, letter_of, octal, octal_digit}
+use Rattle.elide_places.specs.Shown.{shown_byte, shown_name}
 
 -- ---- a name
 
@@ -49,7 +51,8 @@ name_is_graphic : (name : List ℕ) → list_all is_ascii_graphic (shown_name na
 name_is_graphic [] = refl
 name_is_graphic (byte ∷ name) =
     list_all-append is_ascii_graphic (shown_byte byte) (shown_name name)
-    ∙ and_from (list_all is_ascii_graphic (shown_byte byte)) (list_all is_ascii_graphic (shown_name name)) (byte_is_graphic byte)
+    ∙ and_from (list_all is_ascii_graphic (shown_byte byte)) (list_all is_ascii_graphic (shown_name name))
+    (byte_is_graphic byte)
     (name_is_graphic name)
 
 -- no other byte is shown
@@ -76,10 +79,12 @@ text_is_printable : (text : List ℕ) → list_all is_ascii_graphic text ≡ tru
 text_is_printable [] h = refl
 text_is_printable (byte ∷ text) h =
     let parts = and_parts (is_ascii_graphic byte) (list_all is_ascii_graphic text) h in
-    and_from (is_printable byte) (list_all is_printable text) (byte_is_printable byte parts.0) (text_is_printable text parts.1)
+    and_from (is_printable byte) (list_all is_printable text) (byte_is_printable byte parts.0)
+    (text_is_printable text parts.1)
 
 pub name_is_printable : (name shown : List ℕ) → shown ≡ shown_name name → list_all is_printable shown ≡ true
-name_is_printable name shown h = ap (list_all is_printable) h ∙ text_is_printable (shown_name name) (name_is_graphic name)
+name_is_printable name shown h =
+    ap (list_all is_printable) h ∙ text_is_printable (shown_name name) (name_is_graphic name)
 
 digit_is_printable : (d : ℕ) → d < 16 → is_printable (digit_char d) ≡ true
 digit_is_printable d h = of (nat_lt d 10) refl where
@@ -100,7 +105,8 @@ hex_is_printable n = of (n == 0) where
 -- a distance
 pub distance_is_printable : (n : ℕ) (text : List ℕ) → text ≡ codes "+" ++ number n → list_all is_printable text ≡ true
 distance_is_printable n text h =
-    ap (list_all is_printable) h ∙ list_all-append is_printable (codes "+0x") (hex_digits n) ∙ and_from _ _ refl (hex_is_printable n)
+    ap (list_all is_printable) h ∙ list_all-append is_printable (codes "+0x") (hex_digits n)
+    ∙ and_from _ _ refl (hex_is_printable n)
 
 -- a row with one text more
 pub more_is_printable : (row text : List ℕ) → list_all is_printable row ≡ true → list_all is_printable text ≡ true

@@ -43,8 +43,8 @@ impl Places {
         }
     }
 
-    /// The places of a program's text: those of a source or an executable, and none of image text. Nor has a text that is
-    /// refused any.
+    /// The places of a program's text: those of a source or an executable, and none of image text. Nor has a text that
+    /// is refused any.
     pub fn of_text(alloc: Global, text: &[u8]) -> Result<Places, AllocError> {
         if is_elf(text) {
             return match read_elf(alloc, text) {
@@ -63,8 +63,8 @@ impl Places {
         }
     }
 
-    // The places of an executable of this text: its symbols, in the order of the table, but for those above all memory, and
-    // its lines.
+    // The places of an executable of this text: its symbols, in the order of the table, but for those above all memory,
+    // and its lines.
     fn of_elf(alloc: Global, elf: &Elf<'_>, text: &[u8]) -> Result<Places, AllocError> {
         let mut places = Places::none(alloc);
         places.end = elf.end();

@@ -11,10 +11,10 @@ ghost use Rattle.elide_places.specs.Shown.{is_plain, letter_of, octal, octal_dig
 use std::alloc::{AllocError, Global};
 
 /// The name of a symbol as text for a terminal and for columns: each byte of `!` to `~` stands for itself, but for the
-/// backslash; a tab, a line feed, a carriage return and a backslash are `\t`, `\n`, `\r` and `\\`; every other byte is a
-/// backslash and three octal digits, as `\033`, so that a C string of this text has the bytes of the name. A space is `\040`,
-/// since the columns of `stats` part at spaces, and so are the bytes from 80 hex on, some of which terminals obey
-/// (ECMA-48, 5.3).
+/// backslash; a tab, a line feed, a carriage return and a backslash are `\t`, `\n`, `\r` and `\\`; every other byte is
+/// a backslash and three octal digits, as `\033`, so that a C string of this text has the bytes of the name. A space is
+/// `\040`, since the columns of `stats` part at spaces, and so are the bytes from 80 hex on, some of which terminals
+/// obey (ECMA-48, 5.3).
 ///
 /// Names of sources are shown as they are. [`AllocError`] where there is no memory.
 #[tactic(auto, using(crate::proofs::Showing::graphic_text))]

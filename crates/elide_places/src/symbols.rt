@@ -62,9 +62,9 @@ pub fn push_symbols(row: &mut SymbolText, places: &Places, line: u32, naming: Na
     }
 }
 
-/// Writes where an instruction of an executable stands: the symbol of its code at the address or the last below it, with the
-/// distance, as `insert+0x1c`; nothing where there is none. The name is shown by [`Label::shown`]; one past 96 bytes is told
-/// as `..`.
+/// Writes where an instruction of an executable stands: the symbol of its code at the address or the last below it,
+/// with the distance, as `insert+0x1c`; nothing where there is none. The name is shown by [`Label::shown`]; one past 96
+/// bytes is told as `..`.
 pub fn push_code_place(row: &mut SymbolText, places: &Places, address: u32)
     ensures { list_all is_printable row.new.items ≡ true }
 {

@@ -1,5 +1,6 @@
 -- One entry more, and the entries of so many cores.
-use Rattle.std.proofs.Common.{◌≡◌, ◌∙◌, ℕ, ◌≤◌, List, [], ◌∷◌, ◌++◌, ap, sym, subst, refl, map, length, min, arith, Some, Bor}
+use Rattle.std.proofs.Common.{◌≡◌, ◌∙◌, ℕ, ◌≤◌, List, [], ◌∷◌, ◌++◌, ap, sym, subst, refl, map, length, min, arith}
+use Rattle.std.proofs.Common.{Some, Bor}
 use Rattle.std.proofs.lemmas.List.{length-replicate, map-append}
 use Rattle.std.specs.Prelude.{replicate, slice_index}
 use Rattle.std.specs.List.{AllZip}
@@ -14,7 +15,8 @@ zip_push R (z ∷ xs) [] x y all r = absurd all
 zip_push R (z ∷ xs) (w ∷ ys) x y all r = (all.0, zip_push R xs ys x y all.1 r)
 
 -- the entries of the words so far, and that of one word more
-pub one_entry : (file : ProgramFile) (words : List (Bor (List ℕ))) (word : Bor (List ℕ)) (addresses new : List ℕ) (address : ℕ)
+pub one_entry : (file : ProgramFile) (words : List (Bor (List ℕ))) (word : Bor (List ℕ))
+    (addresses new : List ℕ) (address : ℕ)
     → AllZip (λ w a. IsEntry file w (Some a)) (map (λ w. w.now) words) addresses → IsEntry file word.now (Some address)
     → new ≡ addresses ++ address ∷ []
     → AllZip (λ w a. IsEntry file w (Some a)) (map (λ w. w.now) (words ++ word ∷ [])) new
@@ -33,7 +35,8 @@ for_all cores alone starts e few =
     let same : min cores 65 ≡ cores = omega arith in
     e ∙ ap (λ n. replicate n alone) same
 
-pub of_alone : (cores : ℕ) (addresses : List ℕ) → length addresses ≡ 1 → for_cores cores addresses ≡ replicate cores (slice_index addresses 0)
+pub of_alone : (cores : ℕ) (addresses : List ℕ) → length addresses ≡ 1
+    → for_cores cores addresses ≡ replicate cores (slice_index addresses 0)
 of_alone cores [] h = absurd (omega (arith, h))
 of_alone cores (alone ∷ []) h = refl
 of_alone cores (first ∷ second ∷ others) h = absurd (omega (arith, h))

@@ -4,7 +4,8 @@
 //! [`EntryList::addresses`] comes with the program, whose symbols it needs; a name that is none is a misuse, as a wrong
 //! form is. That an address is one of code is tested by the loading.
 
-ghost use Rattle.std.specs.Prelude.{◌≡◌, IfErr, IfOk, MatchOption, MatchResult, None, Some, codes, false, length, true, ℕ};
+ghost use Rattle.std.specs.Prelude.{◌≡◌, IfErr, IfOk, MatchOption, MatchResult, None, Some, codes, false, length, true};
+ghost use Rattle.std.specs.Prelude.{ℕ};
 ghost use Rattle.std.specs.List.{list_all};
 ghost use Rattle.elide_program.specs.Entries.{AreEntries, IsEntry, entry_words, is_entry, is_entry_list};
 ghost use Rattle.elide_program.specs.Refusals.{HasNoStart, NamesOption};
@@ -15,7 +16,8 @@ use crate::number::{is_name, word32};
 use crate::parts::add;
 use std::alloc::Global;
 
-/// A list of entries as `--entry` writes it, in which each word is an address or a name: one entry, or one for each core.
+/// A list of entries as `--entry` writes it, in which each word is an address or a name: one entry, or one for each
+/// core.
 #[derive(Clone, Copy)]
 pub struct EntryList<'a> {
     text: &'a str,

@@ -15,7 +15,8 @@ use std::alloc::AllocError;
 use text_out::WriteFault;
 use thiserror::Error;
 
-/// A fault of FILE or of its loading, with a number, told on one line. It owns nothing, so that it goes through `?` at no cost.
+/// A fault of FILE or of its loading, with a number, told on one line. It owns nothing, so that it goes through `?` at
+/// no cost.
 #[derive(Clone, Copy, Debug, Error)]
 pub enum ProgramFault {
     /// An output device failed.

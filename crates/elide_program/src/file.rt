@@ -4,7 +4,8 @@
 //! is a source. Then come the entries ([`ProgramFile::starts`]), and last [`ProgramFile::load`], which tests the cores
 //! and the memory, and behind that the zeros of an executable. Warnings of a source are told beside this, by `warned`.
 
-ghost use Rattle.std.specs.Prelude.{◌≡◌, ◌≢◌, ◌<◌, ◌≤◌, ◌↔◌, ◌⊎◌, IfErr, IfOk, IsTrue, List, MatchResult, None, Some, codes, length, min, replicate, ℕ};
+ghost use Rattle.std.specs.Prelude.{◌≡◌, ◌≢◌, ◌<◌, ◌≤◌, ◌↔◌, ◌⊎◌, IfErr, IfOk, IsTrue, List, MatchResult, None, Some};
+ghost use Rattle.std.specs.Prelude.{codes, length, min, replicate, ℕ};
 ghost use Rattle.elide_program.specs.Entries.{AreStarts, for_cores};
 ghost use Rattle.elide_program.specs.Faults.{unread, unread_source};
 ghost use Rattle.elide_program.specs.Files.{Gives, Tells, most_bytes};
@@ -246,7 +247,8 @@ fn for_cores(alloc: Global, addresses: Vec<u32>, cores: u32) -> Result<Vec<u32>,
     ensures cores { IfOk result (λ starts. length starts.items ≤ 64 → length starts.items ≡ cores) }
     ensures starts { IfOk result (λ starts. length starts.items ≤ 64 → starts.items ≡ for_cores cores addresses.items) }
     ensures many { IfOk result (λ starts. 64 < length starts.items → 64 < cores) }
-    ensures none { IfErr result (λ refusal. IsWant refusal ⊎ ((length addresses.items ≢ 1) × (length addresses.items ≢ cores)
+    ensures none { IfErr result
+        (λ refusal. IsWant refusal ⊎ ((length addresses.items ≢ 1) × (length addresses.items ≢ cores)
         × NamesOption (codes "--entry") refusal)) }
 {
     match addresses.as_slice() {

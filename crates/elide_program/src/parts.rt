@@ -78,7 +78,8 @@ fn values_of(
     texts: &[&str],
     file: &ProgramFile<'_>,
 ) -> Result<Vec<u32>, ProgramRefusal>
-    ensures parts { IfOk result (λ values. AllZip (λ text address. IsSum file.now text.now (Some address)) texts.now values.items) }
+    ensures parts { IfOk result
+        (λ values. AllZip (λ text address. IsSum file.now text.now (Some address)) texts.now values.items) }
     ensures none { IfErr result (HasNoPart file.now [] texts.now) }
 {
     let mut values = Vec::new(alloc);

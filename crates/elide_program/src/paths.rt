@@ -51,8 +51,8 @@ pub trait Text {
     // How it may stand, from before it, where it was not made to its end or its device failed.
     ghost breaks: { Self → Self → Type 0 } = { λ _ _. ⊤ };
 
-    /// Writes the text, and gives the device back. A beginning of the text, where it is not made to its end or the device
-    /// fails.
+    /// Writes the text, and gives the device back. A beginning of the text, where it is not made to its end or the
+    /// device fails.
     fn write_to<O: Out + Drop>(&mut self, out: O) -> Result<O, WriteFault>
         requires { keeps self.old }
         ensures written { IfOk result (λ given. (bytes : List ℕ) × tells self.old self.new bytes
@@ -69,8 +69,8 @@ pub trait Paths {
     // Whether two paths lead to one regular file, where that is known.
     ghost are_one: { Self → List ℕ → List ℕ → Option Bool };
 
-    /// The whole content of a file of at most so many bytes. A longer one is [`ReadFault::TooLong`], and no other is. No
-    /// file is changed.
+    /// The whole content of a file of at most so many bytes. A longer one is [`ReadFault::TooLong`], and no other is.
+    /// No file is changed.
     fn read(&mut self, path: &str, most: usize) -> Result<Vec<u8>, ReadFault>
         ensures few { IfOk result (λ bytes. length bytes.items ≤ most) }
         ensures content { MatchResult result
@@ -78,9 +78,9 @@ pub trait Paths {
             (λ fault. Refuses (content self.old path.now) most fault) }
         ensures kept { (other : List ℕ) → content self.new other ≡ content self.old other };
 
-    /// Makes a file with this text, or replaces one that is there. Where that fails, a file that was there stays as it was.
-    /// What is no regular file, such as a device, is written where it stands, and so is a file whose folder takes no new
-    /// one: where that fails, a beginning of the text was written.
+    /// Makes a file with this text, or replaces one that is there. Where that fails, a file that was there stays as it
+    /// was. What is no regular file, such as a device, is written where it stands, and so is a file whose folder takes
+    /// no new one: where that fails, a beginning of the text was written.
     fn write<T: Text>(&mut self, path: &str, text: &mut T) -> Result<(), Failed>
         requires { T.keeps text.old }
         ensures written { OnOk result (IsWritten (T.tells text.old text.new) (content self.new path.now)) }

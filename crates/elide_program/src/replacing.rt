@@ -30,9 +30,9 @@ const NAMES: u32 = 100;
 const FRONT: usize = 200;
 
 /// Writes a text to a file beside a path, and gives it that name when it is whole, so that what stood there before
-/// stays where a write fails. The file is new, or one that a command which was ended left behind; it is locked (`flock`)
-/// until it has its name, so that no two commands write the same one. In a folder that takes no new file, the file is
-/// written where it stands.
+/// stays where a write fails. The file is new, or one that a command which was ended left behind; it is locked
+/// (`flock`) until it has its name, so that no two commands write the same one. In a folder that takes no new file, the
+/// file is written where it stands.
 pub fn replace<R: Files<File = File>, T: Text>(
     rt: &R,
     path: &str,

@@ -4,7 +4,8 @@
 //! first that is misread. It opens no file: names are tested for their form alone. That there are such cores, such a
 //! memory and such limits is tested by who makes the machine.
 
-ghost use Rattle.std.specs.Prelude.{◌≡◌, Contains, IfErr, IfOk, List, MatchResult, None, Some, codes, false, option_map, ℕ};
+ghost use Rattle.std.specs.Prelude.{◌≡◌, Contains, IfErr, IfOk, List, MatchResult, None, Some, codes, false};
+ghost use Rattle.std.specs.Prelude.{option_map, ℕ};
 ghost use Rattle.std.specs.Option.{option_copied};
 ghost use Rattle.std.specs.Borrow.{Bor};
 ghost use Rattle.elide_program.specs.Entries.{is_entry_list};
@@ -51,8 +52,8 @@ impl<'a> Settings<'a> {
     ghost use Rattle.elide_program.specs.Refusals.{IsMisread};
     ghost use Rattle.elide_program.specs.Settings.{AreSettings};
 
-    /// Reads the options in the order in which their misuse is told. Where they are not given there is 1 core with a memory of
-    /// 65536 bytes, and a transaction can read and write 512 lines.
+    /// Reads the options in the order in which their misuse is told. Where they are not given there is 1 core with a
+    /// memory of 65536 bytes, and a transaction can read and write 512 lines.
     pub fn read(options: &'a MachineOptions<'a>) -> Result<Settings<'a>, ProgramRefusal>
         ensures settings { IfOk result (λ settings. AreSettings options.now settings) }
         ensures misread { IfErr result (IsMisread options.now) }

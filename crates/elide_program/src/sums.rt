@@ -13,8 +13,8 @@ ghost use Rattle.elide_program.specs.Sums.{IsTrimmedSum, is_sign, signed};
 use crate::file::ProgramFile;
 use crate::number::number_in;
 
-/// The value modulo 2^32 of a sum of a file's symbols and numbers: terms with `+` or `-` between them, of which the first may
-/// have one in front, too. None where a term is neither a number nor a symbol.
+/// The value modulo 2^32 of a sum of a file's symbols and numbers: terms with `+` or `-` between them, of which the
+/// first may have one in front, too. None where a term is neither a number nor a symbol.
 pub fn sum_of(text: &str, file: &ProgramFile<'_>) -> Option<u32>
     ensures { IsSum file.now text.now result }
 {

@@ -19,24 +19,30 @@ use Rattle.elide_setup.proofs.DueCores.{due_core, due_few}
 use Rattle.elide_why.proofs.Refusing.{scheduled_before}
 use Rattle.tm_model.specs.declared.outcome.Outcome.{Outcome}
 use Rattle.tm_model.specs.declared.outcome.Pick.{Pick}
-use Rattle.elide_replay.specs.Refused.{IsNotCompared, IsNotMade, IsRefused, no_room, unheld, unlisted, unroomed, unscheduled, unwritten}
+use Rattle.elide_replay.specs.Refused.{IsNotCompared, IsNotMade, IsRefused, no_room, unheld, unlisted, unroomed}
+use Rattle.elide_replay.specs.Refused.{unscheduled, unwritten}
 
 -- there is no program, no schedule or no memory for what is told of the program
-pub of_opening : (content after : List ℕ → Option (List ℕ)) (are_one : List ℕ → List ℕ → Option Bool) (options : ReplayOptions) (why : Refusal) →
-    ((other : List ℕ) → after other ≡ content other) → IsNotScheduled after options.machine options.schedule why ⊎ (why ≡ want) → IsRefused content are_one options why
+pub of_opening : (content after : List ℕ → Option (List ℕ)) (are_one : List ℕ → List ℕ → Option Bool)
+    (options : ReplayOptions) (why : Refusal) →
+    ((other : List ℕ) → after other ≡ content other)
+    → IsNotScheduled after options.machine options.schedule why ⊎ (why ≡ want) → IsRefused content are_one options why
 of_opening content after are_one options why kept (inl h) =
     unscheduled (scheduled_before content after options.machine options.schedule why kept h)
 of_opening content after are_one options why kept (inr none) = no_room (inl none)
 
 -- a board that has the room and the cores of a course makes each step that is due
-steps_due : (asked : Course) (cores : ℕ) (made : List (Pick × Outcome)) (first last : Board) (pick : Pick) (why : Refusal) →
+steps_due : (asked : Course) (cores : ℕ) (made : List (Pick × Outcome)) (first last : Board) (pick : Pick)
+    (why : Refusal) →
     first.history ≡ [] → most_of asked ≤ first.limit → length first.program.entries ≡ cores →
-    All (λ (one : Pick). one.core < cores) (listed_in asked) → Leads AreBoardSteps first made last → IsDue asked cores made pick →
+    All (λ (one : Pick). one.core < cores) (listed_in asked) → Leads AreBoardSteps first made last
+    → IsDue asked cores made pick →
     IsNoStep last pick why → ⊥
 steps_due asked cores made first last pick why none room has fit lead due (no_core beyond tells) =
     let same = made_all made first last none lead in
     let below : pick.core < cores = due_core asked cores made pick fit due in
-    let entries : length last.program.entries ≡ length first.program.entries = ap (λ p. length p.entries) same.1.program in
+    let entries : length last.program.entries ≡ length first.program.entries =
+    ap (λ p. length p.entries) same.1.program in
     omega arith
 steps_due asked cores made first last pick why none room has fit lead due (full all tells) =
     let same = made_all made first last none lead in

@@ -47,9 +47,9 @@ impl Agreement {
     }
 }
 
-/// Compares a board's machine with a serial run, which need not be that of the board's history. They agree exactly where
-/// memory is the same, both have as many cores, and of each core the registers (those before an open transaction) and the
-/// stop are the same. Takes no memory.
+/// Compares a board's machine with a serial run, which need not be that of the board's history. They agree exactly
+/// where memory is the same, both have as many cores, and of each core the registers (those before an open transaction)
+/// and the stop are the same. Takes no memory.
 pub fn agreement_of(board: &Board, serial: &Serial) -> Agreement
     ensures { result ≡ Agreement.Agrees ↔ Replays board.now serial.now }
 {

@@ -12,7 +12,8 @@ ghost use Rattle.tm_model.specs.declared.outcome.Pick.{Pick};
 ghost use Rattle.tm_model.specs.Runs.{picks_of};
 ghost use Rattle.elide_setup.specs.Faults.{want};
 ghost use Rattle.elide_setup.specs.Recorded.{IsRecorded};
-ghost use Rattle.elide_setup.specs.Refused.{IsAnyWant, IsCourseOf, IsNoBoard, IsNotScheduled, IsUnrecorded, IsUnwritten};
+ghost use Rattle.elide_setup.specs.Refused.{IsAnyWant, IsCourseOf, IsNoBoard, IsNotScheduled, IsUnrecorded};
+ghost use Rattle.elide_setup.specs.Refused.{IsUnwritten};
 ghost use Rattle.elide_json.specs.Refused.{IsUnsent};
 ghost use Rattle.elide_setup.specs.Schedules.{AreOf, picks_made};
 ghost use Rattle.elide_setup.specs.Setup.{IsAsked};
@@ -43,9 +44,9 @@ use tm_hist::{Board, Serial};
 use tm_model::Pick;
 
 /// Runs a schedule on a board, and its history again on one memory; prints the aborts with their reasons where they are
-/// asked for, the state, what is asked for of memory, and whether both ended alike, which they always do: a board's history replays;
-/// as lines, or as one object (docs/JSON.md, "replay"), which has no reasons. `names` says whether a reason names code where the
-/// subset ends. Gives the device back.
+/// asked for, the state, what is asked for of memory, and whether both ended alike, which they always do: a board's
+/// history replays; as lines, or as one object (docs/JSON.md, "replay"), which has no reasons. `names` says whether a
+/// reason names code where the subset ends. Gives the device back.
 ///
 /// [`Refusal::Usage`] of `--json`, where reasons are asked for too.
 pub fn replay<P: Paths, O: Out + Drop, G: Progress>(
@@ -124,7 +125,8 @@ fn compared<P: Paths, O: Out + Drop, G: Progress>(
 ) -> Result<(Agreement, O), Refusal>
     requires { options.now.explains ≡ false → places ≡ None }
     ensures agrees { IfOk result (λ r. r.0 ≡ Agreement.Agrees) }
-    ensures told { IfOk result (λ r. IsTold setup.now options.now board.now (O.device out).contents (O.device r.1).contents) }
+    ensures told { IfOk result
+        (λ r. IsTold setup.now options.now board.now (O.device out).contents (O.device r.1).contents) }
     ensures recorded { IfOk result (λ _. IsRecorded (P.content paths.new) path.entry
         (schedule_text (picks_of board.now.history))) }
     ensures refused { IfErr result (IsNotCompared setup.now board.now path.entry) }
@@ -160,7 +162,8 @@ fn write_record<P: Paths>(
     path: Option<&str>,
     paths: &mut P,
 ) -> Result<(), Refusal>
-    ensures written { OnOk result (IsRecorded (P.content paths.new) path.entry (schedule_text (picks_of board.now.history))) }
+    ensures written { OnOk result
+        (IsRecorded (P.content paths.new) path.entry (schedule_text (picks_of board.now.history))) }
     ensures failed { IfErr result (λ why. IsUnrecorded path.entry why ⊎ IsAnyWant why) }
 {
     if path.is_none() {
@@ -179,10 +182,12 @@ fn begun<P: Paths>(
     names: bool,
     paths: &mut P,
 ) -> Result<(Setup, Course, Option<NamedPlaces>), Refusal>
-    ensures setup { IfOk result (λ r. IsAsked (P.content paths.old options.now.machine.file.now) options.now.machine r.0) }
+    ensures setup { IfOk result
+        (λ r. IsAsked (P.content paths.old options.now.machine.file.now) options.now.machine r.0) }
     ensures course { IfOk result (λ r. IsCourseOf (P.content paths.old) options.now.schedule r.1) }
     ensures places { IfOk result (λ r. options.now.explains ≡ false → r.2 ≡ None) }
-    ensures none { IfErr result (λ why. IsNotScheduled (P.content paths.old) options.now.machine options.now.schedule why
+    ensures none { IfErr result
+        (λ why. IsNotScheduled (P.content paths.old) options.now.machine options.now.schedule why
         ⊎ (why ≡ want)) }
 {
     if options.explains {

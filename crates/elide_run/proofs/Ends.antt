@@ -1,5 +1,6 @@
 -- The cores that have not stopped, and what a run came to by them.
-use Rattle.std.proofs.Common.{◌≡◌, ◌∙◌, ℕ, ◌+◌, Bool, true, false, not, List, Option, None, Some, [], ◌∷◌, ◌++◌, ap, if◌then◌else◌, length, map-id, refl, sym, zero-add}
+use Rattle.std.proofs.Common.{◌≡◌, ◌∙◌, ℕ, ◌+◌, Bool, true, false, not, List, Option, None, Some, [], ◌∷◌, ◌++◌, ap}
+use Rattle.std.proofs.Common.{if◌then◌else◌, length, map-id, refl, sym, zero-add}
 use Rattle.std.proofs.lemmas.List.FromFn.{filter_of_map_range_with_len_more}
 use Rattle.std.specs.Io.KnownBytes.{Appends, Keeps}
 use Rattle.std.specs.List.{filter, list_all, range_with_len}
@@ -22,7 +23,8 @@ ending_all p (core ∷ cores) = first_case p (p core) core cores refl (ending_al
 
 pub ending_by : (expects : Bool) (machine : Machine) (cores : List ℕ) → cores ≡ running_cores machine →
     (if expects then cores_ending cores else AsAsked) ≡ asked_ending expects machine
-ending_by true machine cores e = ap cores_ending e ∙ ending_all (is_stopped machine) (range_with_len 0 (length machine.views))
+ending_by true machine cores e =
+    ap cores_ending e ∙ ending_all (is_stopped machine) (range_with_len 0 (length machine.views))
 ending_by false machine cores e = refl
 
 -- with one core more

@@ -7,8 +7,10 @@ use Rattle.elide_setup.specs.declared.machine.Setup.{Setup}
 use Rattle.elide_why.proofs.Passing.{kept_first}
 use Rattle.elide_run.specs.Printed.{IsRunAsAsked}
 
-pub kept_before : (content left : List ℕ → Option (List ℕ)) (options : RunOptions) (setup : Setup) (machine : Machine) (first begun ended : Option (List ℕ)) →
-    Keeps first begun → IsRunAsAsked content left options setup machine begun ended → IsRunAsAsked content left options setup machine first ended
+pub kept_before : (content left : List ℕ → Option (List ℕ)) (options : RunOptions) (setup : Setup) (machine : Machine)
+    (first begun ended : Option (List ℕ)) →
+    Keeps first begun → IsRunAsAsked content left options setup machine begun ended
+    → IsRunAsAsked content left options setup machine first ended
 kept_before content left options setup machine first begun ended kept run = record {
   asked = run.asked;
   made = run.made;

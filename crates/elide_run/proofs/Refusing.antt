@@ -19,63 +19,79 @@ use Rattle.elide_setup.specs.declared.plan.Course.{Course}
 use Rattle.elide_setup.proofs.DueCores.{due_core, has_core}
 use Rattle.elide_why.proofs.Refusing.{scheduled_before}
 use Rattle.elide_why.specs.Refused.{IsUntoldStep}
-use Rattle.elide_run.specs.Refused.{HasNotAll, IsNoRun, IsRefused, IsUnexplained, no_room, not_run, not_shown, unrecorded, unscheduled, untold, unwritten}
+use Rattle.elide_run.specs.Refused.{HasNotAll, IsNoRun, IsRefused, IsUnexplained, no_room, not_run, not_shown}
+use Rattle.elide_run.specs.Refused.{unrecorded, unscheduled, untold, unwritten}
 
 -- a step whose line is written is refused
-pub of_told : (machine : Machine) (pick : Pick) (why : Refusal) → IsUntoldStep machine pick why → IsUnexplained machine pick why
+pub of_told : (machine : Machine) (pick : Pick) (why : Refusal) → IsUntoldStep machine pick why
+    → IsUnexplained machine pick why
 of_told machine pick why (inl none) = inl none
 of_told machine pick why (inr h) = inr (inl h)
 
 -- the text that a run's object begins with is not written
-pub of_front : (setup : Setup) (asked : Course) (path : Option (Bor (List ℕ))) (why : Refusal) → IsUnsaid why → IsNoRun setup asked path why
+pub of_front : (setup : Setup) (asked : Course) (path : Option (Bor (List ℕ))) (why : Refusal) → IsUnsaid why
+    → IsNoRun setup asked path why
 of_front setup asked path why (inl h) = untold (inl h)
 of_front setup asked path why (inr none) = untold (inr (inl none))
 
 -- a step of a core of the program is not told
-of_step : (setup : Setup) (asked : Course) (path : Option (Bor (List ℕ))) (made : List (Pick × Outcome)) (machine : Machine) (pick : Pick) (why : Refusal) →
-    IsRunOf setup.program setup.limits made machine → pick.core < length setup.program.entries → IsUnexplained machine pick why →
+of_step : (setup : Setup) (asked : Course) (path : Option (Bor (List ℕ))) (made : List (Pick × Outcome))
+    (machine : Machine) (pick : Pick) (why : Refusal) →
+    IsRunOf setup.program setup.limits made machine → pick.core < length setup.program.entries
+    → IsUnexplained machine pick why →
     IsNoRun setup asked path why
 of_step setup asked path made machine pick why ran below (inl none) =
     absurd (has_core setup.program setup.limits made machine pick why ran below none)
 of_step setup asked path made machine pick why ran below (inr h) = untold h
 
 -- the steps of a walk are not made, or its schedule is not written
-pub of_walk : {Maker : Type 0} (takes : Maker → List (Pick × Outcome) → Maker → Type 0) (refuses : Maker → Pick → Refusal → Type 0)
-    (machine : Maker → Machine) (setup : Setup) (asked : Course) (cores : ℕ) (path : Option (Bor (List ℕ))) (before : Maker) (why : Refusal) →
-    cores ≡ length setup.program.entries → All (λ (pick : Pick). pick.core < length setup.program.entries) (listed_in asked) →
-    ((made : List (Pick × Outcome)) (after : Maker) → Leads takes before made after → IsRunOf setup.program setup.limits made (machine after)) →
+pub of_walk : {Maker : Type 0} (takes : Maker → List (Pick × Outcome) → Maker → Type 0)
+    (refuses : Maker → Pick → Refusal → Type 0)
+    (machine : Maker → Machine) (setup : Setup) (asked : Course) (cores : ℕ) (path : Option (Bor (List ℕ)))
+    (before : Maker) (why : Refusal) →
+    cores ≡ length setup.program.entries
+    → All (λ (pick : Pick). pick.core < length setup.program.entries) (listed_in asked) →
+    ((made : List (Pick × Outcome)) (after : Maker) → Leads takes before made after
+    → IsRunOf setup.program setup.limits made (machine after)) →
     ((after : Maker) (pick : Pick) → refuses after pick why → IsUnexplained (machine after) pick why) →
     IsNoWalk takes refuses asked cores before why ⊎ IsUnrecorded path why → IsNoRun setup asked path why
 of_walk takes refuses machine setup asked cores path before why same fit ran told (inl (inl h)) =
-    let due : IsDue asked (length setup.program.entries) h.made h.pick = subst (λ (n : ℕ). IsDue asked n h.made h.pick) same h.due in
+    let due : IsDue asked (length setup.program.entries) h.made h.pick =
+    subst (λ (n : ℕ). IsDue asked n h.made h.pick) same h.due in
     of_step setup asked path h.made (machine h.after) h.pick why (ran h.made h.after h.lead)
     (due_core asked (length setup.program.entries) h.made h.pick fit due) (told h.after h.pick h.refused)
-of_walk takes refuses machine setup asked cores path before why same fit ran told (inl (inr none)) = untold (inr (inr none))
+of_walk takes refuses machine setup asked cores path before why same fit ran told (inl (inr none)) =
+    untold (inr (inr none))
 of_walk takes refuses machine setup asked cores path before why same fit ran told (inr h) = unrecorded h
 
 -- there is no program, no schedule or no memory for what is told of the program
-pub of_opening : (content after : List ℕ → Option (List ℕ)) (are_one : List ℕ → List ℕ → Option Bool) (options : RunOptions) (why : Refusal) →
-    ((other : List ℕ) → after other ≡ content other) → IsNotScheduled after options.machine options.schedule why ⊎ (why ≡ want) → IsRefused content are_one options why
+pub of_opening : (content after : List ℕ → Option (List ℕ)) (are_one : List ℕ → List ℕ → Option Bool)
+    (options : RunOptions) (why : Refusal) →
+    ((other : List ℕ) → after other ≡ content other)
+    → IsNotScheduled after options.machine options.schedule why ⊎ (why ≡ want) → IsRefused content are_one options why
 of_opening content after are_one options why kept (inl h) =
     unscheduled (scheduled_before content after options.machine options.schedule why kept h)
 of_opening content after are_one options why kept (inr none) = no_room (inl none)
 
 -- there is no run along a course
-pub of_run : (content : List ℕ → Option (List ℕ)) (are_one : List ℕ → List ℕ → Option Bool) (options : RunOptions) (setup : Setup) (asked : Course) (path : Option (Bor (List ℕ))) (why : Refusal) →
+pub of_run : (content : List ℕ → Option (List ℕ)) (are_one : List ℕ → List ℕ → Option Bool) (options : RunOptions)
+    (setup : Setup) (asked : Course) (path : Option (Bor (List ℕ))) (why : Refusal) →
     IsAsked (content options.machine.file.now) options.machine setup → IsCourseOf content options.schedule asked →
     path ≡ options.record → IsNoRun setup asked path why → IsRefused content are_one options why
 of_run content are_one options setup asked path why is are given h =
     not_run setup asked is are (subst (λ (p : Option (Bor (List ℕ))). IsNoRun setup asked p why) given h)
 
 -- what is printed below its steps is not there, or not written
-pub of_end : (content : List ℕ → Option (List ℕ)) (are_one : List ℕ → List ℕ → Option Bool) (options : RunOptions) (setup : Setup) (machine : Machine) (made : List (Pick × Outcome)) (why : Refusal) →
+pub of_end : (content : List ℕ → Option (List ℕ)) (are_one : List ℕ → List ℕ → Option Bool) (options : RunOptions)
+    (setup : Setup) (machine : Machine) (made : List (Pick × Outcome)) (why : Refusal) →
     IsAsked (content options.machine.file.now) options.machine setup → IsRunOf setup.program setup.limits made machine →
     HasNotAll setup machine why ⊎ IsUnwritten why → IsRefused content are_one options why
 of_end content are_one options setup machine made why is ran (inl h) = not_shown setup made machine is ran h
 of_end content are_one options setup machine made why is ran (inr h) = unwritten h
 
 -- the object of its end is not told
-pub of_object : (content : List ℕ → Option (List ℕ)) (are_one : List ℕ → List ℕ → Option Bool) (options : RunOptions) (setup : Setup) (machine : Machine) (made : List (Pick × Outcome)) (why : Refusal) →
+pub of_object : (content : List ℕ → Option (List ℕ)) (are_one : List ℕ → List ℕ → Option Bool) (options : RunOptions)
+    (setup : Setup) (machine : Machine) (made : List (Pick × Outcome)) (why : Refusal) →
     IsAsked (content options.machine.file.now) options.machine setup → IsRunOf setup.program setup.limits made machine →
     IsUnsent machine.memory setup.parts why → IsRefused content are_one options why
 of_object content are_one options setup machine made why is ran (inl (inl h)) =

@@ -26,7 +26,8 @@ use tm_hist::write_outcome;
 use tm_model::{Outcome, Pick};
 use tm_trace::{Before, Deed, write_deed, write_front, write_step};
 
-/// Makes a run's steps, and prints the line of each outcome with its instruction; writes the schedule where there is a path.
+/// Makes a run's steps, and prints the line of each outcome with its instruction; writes the schedule where there is a
+/// path.
 pub fn run_coded<P: Paths, O: Out + Drop, G: Progress>(
     alloc: Global,
     options: &RunOptions<'_>,
@@ -179,7 +180,8 @@ impl StepTeller for ReasonTeller<'_> {
     }
 }
 
-// What a line goes on with behind that of its outcome alone, without the space or the colon before it; the line's end with it.
+// What a line goes on with behind that of its outcome alone, without the space or the colon before it; the line's end
+// with it.
 fn reason_in<'a>(line: &'a [u8], outcome: &[u8]) -> &'a [u8] {
     let front = outcome.len().saturating_sub(1).min(line.len());
     match &line[front..] {

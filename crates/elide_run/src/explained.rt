@@ -91,8 +91,8 @@ pub fn stepped<T: StepTeller + Drop, P: Paths, O: Out + Drop, G: Progress>(
     Ok((machine, page))
 }
 
-/// What makes a machine's step and tells of it. A trait, since what a walk comes to is known of a maker whose type names no
-/// lifetime.
+/// What makes a machine's step and tells of it. A trait, since what a walk comes to is known of a maker whose type
+/// names no lifetime.
 pub trait StepTeller {
     /// Makes a step, and writes its line.
     fn tell_step<O: Out>(

@@ -8,8 +8,8 @@
 //! also where reasons are asked for. The texts of reasons are compared by `doc_tests`. With `--json` one object is
 //! printed in place of the lines, of the same machine and the same steps (`specs/Object.antt`). A run is refused for
 //! the reason that it names alone (`specs/Refused.antt`); once it goes on, for what is not written or want of memory
-//! alone: the machine makes each step that is due. Stands on `elide_setup`, on `elide_why` for the reasons of aborts, and
-//! on `elide_json` for the object.
+//! alone: the machine makes each step that is due. Stands on `elide_setup`, on `elide_why` for the reasons of aborts,
+//! and on `elide_json` for the object.
 #![tactic(auto)]
 
 mod coded;

@@ -5,7 +5,8 @@
 //! record, FILE, its schedule, the machine. The object's front is written once the machine is there, and what stands
 //! behind the outcomes when the last step is made. The texts of both are `elide_json`'s.
 
-ghost use Rattle.std.specs.Prelude.{◌≡◌, ◌≤◌, ◌<◌, ◌+◌, ◌++◌, ◌^◌, [], ◌∷◌, cond, length, not, true, IfErr, IfOk, List, OnErr, OnOk, if◌then◌else◌};
+ghost use Rattle.std.specs.Prelude.{◌≡◌, ◌≤◌, ◌<◌, ◌+◌, ◌++◌, ◌^◌, [], ◌∷◌, cond, length, not, true, IfErr, IfOk, List};
+ghost use Rattle.std.specs.Prelude.{OnErr, OnOk, if◌then◌else◌};
 ghost use Rattle.std.specs.Option.{option_copied};
 ghost use Rattle.arrayvec.specs.ArrayVec.{array_vec_len};
 ghost use Rattle.text_out.specs.Writing.{Wrote};
@@ -40,8 +41,8 @@ use tm_model::{Outcome, Pick};
 // The numbers of cores.
 type Cores = ArrayVec<u32, 64>;
 
-/// Runs a schedule of core steps, and prints the object of the run. Answers whether a core has not stopped, where all are expected
-/// to, and gives the device back.
+/// Runs a schedule of core steps, and prints the object of the run. Answers whether a core has not stopped, where all
+/// are expected to, and gives the device back.
 ///
 /// [`Refusal::Usage`] of `--json`, where instructions or the reasons of the aborts are asked for.
 pub fn run_object<P: Paths, O: Out + Drop, G: Progress>(
@@ -119,7 +120,8 @@ fn stepped<P: Paths, O: Out + Drop, G: Progress>(
 
 // What stands before the outcomes is written.
 fn begun<O: Out + Drop>(traces: bool, page: Gathered<O>) -> Result<Gathered<O>, Refusal>
-    ensures wrote { IfOk result (λ begun. Wrote (⟦<Gathered<O> as Out>⟧.device page) (⟦<Gathered<O> as Out>⟧.device begun)
+    ensures wrote { IfOk result
+        (λ begun. Wrote (⟦<Gathered<O> as Out>⟧.device page) (⟦<Gathered<O> as Out>⟧.device begun)
         (run_front traces)) }
     ensures unsaid { IfErr result IsUnsaid }
 {

@@ -13,12 +13,13 @@ use elide_setup::{Course, Refusal, Setup, new_machine, shown_memory};
 use std::alloc::Global;
 use tm_core::Machine;
 
-/// The machine of a program before its first step, where the schedule names its cores alone, and what is to be printed of memory
-/// is there.
+/// The machine of a program before its first step, where the schedule names its cores alone, and what is to be printed
+/// of memory is there.
 pub fn machine_of(alloc: Global, setup: &Setup, course: &Course) -> Result<Machine, Refusal>
     ensures made { IfOk result (IsRunOf setup.now.program setup.now.limits []) }
     ensures cores { IfOk result (λ machine. length machine.views ≡ length setup.now.program.entries) }
-    ensures fit { IfOk result (λ _. All (λ (pick : Pick). pick.core < length setup.now.program.entries) (listed_in course.now)) }
+    ensures fit { IfOk result
+        (λ _. All (λ (pick : Pick). pick.core < length setup.now.program.entries) (listed_in course.now)) }
     ensures none { IfErr result (IsNotReady setup.now course.now) }
 {
     let machine = new_machine(alloc, setup)?;

@@ -36,12 +36,13 @@ use tm_core::Machine;
 use tm_hist::write_outcome;
 use tm_model::{Outcome, Pick};
 
-/// Runs a schedule of core steps, and prints the outcomes where they are asked for, with their instructions, the reasons of the aborts where these
-/// are, the state, and what is asked for of memory; and where it is expected that all cores stop, those that did not: as lines, or
-/// as one object (docs/JSON.md, "run"), which has no reasons. `names` says whether a reason names code where the subset ends.
-/// Answers whether there is one then, and gives the device back.
+/// Runs a schedule of core steps, and prints the outcomes where they are asked for, with their instructions, the
+/// reasons of the aborts where these are, the state, and what is asked for of memory; and where it is expected that all
+/// cores stop, those that did not: as lines, or as one object (docs/JSON.md, "run"), which has no reasons. `names` says
+/// whether a reason names code where the subset ends. Answers whether there is one then, and gives the device back.
 ///
-/// [`Refusal::Usage`] of `--code` without the outcomes, and of `--json`, where instructions or reasons are asked for too.
+/// [`Refusal::Usage`] of `--code` without the outcomes, and of `--json`, where instructions or reasons are asked for
+/// too.
 pub fn run<P: Paths, O: Out + Drop, G: Progress>(
     alloc: Global,
     options: &RunOptions<'_>,
@@ -50,7 +51,8 @@ pub fn run<P: Paths, O: Out + Drop, G: Progress>(
     out: O,
     progress: &mut G,
 ) -> Result<(Ending, O), Refusal>
-    ensures lines { IfOk result (λ r. options.now.is_json ≡ false → IsPrinted (P.content paths.old) (P.content paths.new)
+    ensures lines { IfOk result
+        (λ r. options.now.is_json ≡ false → IsPrinted (P.content paths.old) (P.content paths.new)
         options.now r.0 (O.device out).contents (O.device r.1).contents) }
     ensures object { IfOk result (λ r. options.now.is_json ≡ true → IsObjectPrinted (P.content paths.old)
         (P.content paths.new) options.now r.0 (O.device out).contents (O.device r.1).contents) }

@@ -1,5 +1,6 @@
 -- The plan of a schedule that is drawn.
-use Rattle.std.proofs.Common.{◌≡◌, ◌<◌, ◌≤◌, ◌∙◌, ℕ, Bool, false, true, List, [], Option, None, Some, length, arith, ap, refl, subst, sym, inl, inr}
+use Rattle.std.proofs.Common.{◌≡◌, ◌<◌, ◌≤◌, ◌∙◌, ℕ, Bool, false, true, List, [], Option, None, Some, length, arith, ap}
+use Rattle.std.proofs.Common.{refl, subst, sym, inl, inr}
 use Rattle.std.specs.Borrow.{Bor}
 use Rattle.std.specs.Prelude.{is_some, min, not}
 use Rattle.std.specs.Option.{option_copied}
@@ -32,18 +33,22 @@ use Rattle.elide_session.specs.Refused.{IsUndrawn}
 -- what a walk that keeps its picks comes to
 abbrev pub Walked : Drawn → ℕ → Machine → Machine → List Pick → Type 0
 Walked drawn cores before after picks =
-    (steps : List (Pick × Outcome)) × AreUnder drawn.events (picks_made steps) × Leads AreMachineSteps before steps after
+    (steps : List (Pick × Outcome)) × AreUnder drawn.events (picks_made steps)
+    × Leads AreMachineSteps before steps after
     × (picks ≡ picks_told steps) × IsOut (course.Drawn drawn) cores steps
 
 -- the picks that are told come under the events that may be drawn, too
-pub plan_under : (drawn : Drawn) (setup : Setup) (cores : ℕ) (before after : Machine) (picks : List Pick) → IsRunOf setup.program setup.limits [] before →
+pub plan_under : (drawn : Drawn) (setup : Setup) (cores : ℕ) (before after : Machine) (picks : List Pick)
+    → IsRunOf setup.program setup.limits [] before →
     Walked drawn cores before after picks → AreUnder drawn.events picks
 plan_under drawn setup cores before after picks new walked =
     let ran = run_of_all setup.program setup.limits walked.0 before after new walked.2 in
     subst (λ (l : List Pick). AreUnder drawn.events l) (sym walked.3)
-    (all_told_under drawn.events (machine_setting ran.start) (opening_state setup.program) (λ _. None) walked.0 ran.under walked.1)
+    (all_told_under drawn.events (machine_setting ran.start) (opening_state setup.program) (λ _. None) walked.0
+    ran.under walked.1)
 
-pub plan_run : (drawn : Drawn) (setup : Setup) (cores : ℕ) (before after : Machine) (picks : List Pick) → IsRunOf setup.program setup.limits [] before →
+pub plan_run : (drawn : Drawn) (setup : Setup) (cores : ℕ) (before after : Machine) (picks : List Pick)
+    → IsRunOf setup.program setup.limits [] before →
     cores ≡ length setup.program.entries → Walked drawn cores before after picks →
     AreDrawn setup.program setup.limits (IsOut (course.Drawn drawn)) picks
 plan_run drawn setup cores before after picks new same walked = record {
@@ -55,8 +60,10 @@ plan_run drawn setup cores before after picks new same walked = record {
 }
 
 -- a machine of the program makes each step that is drawn
-pub of_walk : (drawn : Drawn) (setup : Setup) (cores : ℕ) (before : Machine) (why : Refusal) → IsRunOf setup.program setup.limits [] before →
-    cores ≡ length setup.program.entries → IsNoWalk AreMachineSteps IsNoCore (course.Drawn drawn) cores before why → IsUndrawn setup why
+pub of_walk : (drawn : Drawn) (setup : Setup) (cores : ℕ) (before : Machine) (why : Refusal)
+    → IsRunOf setup.program setup.limits [] before →
+    cores ≡ length setup.program.entries → IsNoWalk AreMachineSteps IsNoCore (course.Drawn drawn) cores before why
+    → IsUndrawn setup why
 of_walk drawn setup cores before why new same (inl h) =
     let ran = run_of_all setup.program setup.limits h.made before h.after new h.lead in
     let kept : length h.after.views ≡ length ran.start.views = ran.is_run.same.cores in
@@ -69,7 +76,8 @@ of_walk drawn setup cores before why new same (inr none) = inr (inr none)
 -- ---- of the options
 
 -- a plan of which no more are drawn is of the same steps
-pub limited_steps : (content : List ℕ → Option (List ℕ)) (asked : Plan) (picks : List Pick) → ArePlanned content (limited_plan asked) picks →
+pub limited_steps : (content : List ℕ → Option (List ℕ)) (asked : Plan) (picks : List Pick)
+    → ArePlanned content (limited_plan asked) picks →
     ArePlanned content asked picks
 limited_steps content (plan.Steps listed) picks h = h
 limited_steps content (plan.File path) picks h = h
@@ -85,15 +93,18 @@ limited_path (plan.Steps listed) = refl
 limited_path (plan.File path) = refl
 limited_path (plan.Drawn drawn) = refl
 
-seeded : (random : Option (Bor (List ℕ))) (seed : Option ℕ) → IsSeed (option_copied random) seed → is_some seed ≡ is_some random
+seeded : (random : Option (Bor (List ℕ))) (seed : Option ℕ) → IsSeed (option_copied random) seed
+    → is_some seed ≡ is_some random
 seeded None seed h = ap is_some h
 seeded (Some text) None h = absurd (h.1 refl)
 seeded (Some text) (Some number) h = refl
 
-listed_form : (options : ScheduleOptions) → are_listed options ≡ false → form_asked options ≡ Some (is_some options.events)
+listed_form : (options : ScheduleOptions) → are_listed options ≡ false
+    → form_asked options ≡ Some (is_some options.events)
 listed_form options unlisted = rw unlisted refl
 
-pub limited_out : (options : ScheduleOptions) (asked : Plan) (cores : ℕ) (steps : List (Pick × Outcome)) → IsAskedDraw options asked →
+pub limited_out : (options : ScheduleOptions) (asked : Plan) (cores : ℕ) (steps : List (Pick × Outcome))
+    → IsAskedDraw options asked →
     plan_form asked ≡ form_asked options → are_listed options ≡ false → IsPlannedOut (limited_plan asked) cores steps →
     IsLimitedOut options cores steps
 limited_out options (plan.Steps listed) cores steps draw form unlisted h = let some = listed_form options unlisted in cc
@@ -101,17 +112,22 @@ limited_out options (plan.File path) cores steps draw form unlisted h = let some
 limited_out options (plan.Drawn drawn) cores steps draw form unlisted h = (
   drawn.most,
   draw.most,
-  subst (λ (b : Bool). IsDrawnOut (not b) cores (min drawn.most most_drawn) steps) (seeded options.random drawn.seed draw.seed) h,
+  subst (λ (b : Bool). IsDrawnOut (not b) cores (min drawn.most most_drawn) steps)
+      (seeded options.random drawn.seed draw.seed) h,
 )
 
 -- ---- of a session
 
 -- the picks of a schedule that is drawn are those of a run of its board's program
-pub drawn_for : (options : ScheduleOptions) (setup : Setup) (board : Board) (made : Course) (asked : Plan) (picks : List Pick) →
-    IsNew setup.program setup.limits 1000000 board → form_of made ≡ plan_form asked → plan_form asked ≡ form_asked options →
+pub drawn_for : (options : ScheduleOptions) (setup : Setup) (board : Board) (made : Course) (asked : Plan)
+    (picks : List Pick) →
+    IsNew setup.program setup.limits 1000000 board → form_of made ≡ plan_form asked
+    → plan_form asked ≡ form_asked options →
     ((cores : ℕ) (steps : List (Pick × Outcome)) → IsOut made cores steps → IsPlannedOut asked cores steps) →
-    (are_listed options ≡ false → (cores : ℕ) (steps : List (Pick × Outcome)) → IsPlannedOut asked cores steps → IsLimitedOut options cores steps) →
-    (is_some (form_of made) ≡ true → AreDrawn setup.program setup.limits (IsOut made) picks) → are_listed options ≡ false →
+    (are_listed options ≡ false → (cores : ℕ) (steps : List (Pick × Outcome)) → IsPlannedOut asked cores steps
+    → IsLimitedOut options cores steps) →
+    (is_some (form_of made) ≡ true → AreDrawn setup.program setup.limits (IsOut made) picks)
+    → are_listed options ≡ false →
     AreDrawn board.program board.limits (IsLimitedOut options) picks
 drawn_for options setup board made asked picks new form said out limited ran unlisted =
     let run = ran (ap is_some (form ∙ said ∙ listed_form options unlisted)) in
@@ -119,7 +135,8 @@ drawn_for options setup board made asked picks new form said out limited ran unl
       steps = run.steps;
       last = run.last;
       ran = run.ran;
-      out = limited unlisted (length setup.program.entries) run.steps (out (length setup.program.entries) run.steps run.out);
+      out = limited unlisted (length setup.program.entries) run.steps
+          (out (length setup.program.entries) run.steps run.out);
       told = run.told;
     } in
     subst (λ p. AreDrawn p board.limits (IsLimitedOut options) picks) (sym new.program)

@@ -1,5 +1,6 @@
 -- Steps of one core side by side, none of them under an event.
-use Rattle.std.proofs.Common.{◌≡◌, ℕ, List, [], ◌∷◌, ◌++◌, length, replicate, Option, None, Some, refl, sym, ap, ◌∙◌, subst, false}
+use Rattle.std.proofs.Common.{◌≡◌, ℕ, List, [], ◌∷◌, ◌++◌, length, replicate, Option, None, Some, refl, sym, ap, ◌∙◌}
+use Rattle.std.proofs.Common.{subst, false}
 use Rattle.std.specs.Prelude.{All, MatchOption, IfOk, Result, Ok, Err}
 use Rattle.std.proofs.lemmas.List.Elements.{All-head, All-tail}
 use Rattle.tm_model.specs.Conflicts.{Doomed, doomed_after}
@@ -7,7 +8,8 @@ use Rattle.tm_model.specs.Runs.{AreOwed, IsOwedUnder, TellNoAbort, event_told, i
 use Rattle.tm_model.specs.Setting.{Setting}
 use Rattle.tm_model.specs.State.{State}
 use Rattle.tm_model.specs.Steps.{step}
-use Rattle.tm_model.specs.declared.outcome.Outcome.TheVariants.{Aborted, AbortedBy, Begun, Committed, Idle, Inside, Loaded, Plain, Stopped}
+use Rattle.tm_model.specs.declared.outcome.Outcome.TheVariants.{Aborted, AbortedBy, Begun, Committed, Idle, Inside}
+use Rattle.tm_model.specs.declared.outcome.Outcome.TheVariants.{Loaded, Plain, Stopped}
 use Rattle.tm_model.specs.declared.outcome.Event.{Event}
 use Rattle.tm_model.specs.declared.outcome.Outcome.{Outcome}
 use Rattle.tm_model.specs.declared.outcome.Pick.{Pick}
@@ -29,8 +31,10 @@ pub lone_picks : (core : ℕ) (history : List (ℕ × Outcome)) → All (λ (tak
     picks_made (lone_steps history) ≡ replicate (length history) (lone_pick core)
 lone_picks core [] own = refl
 lone_picks core (taken ∷ history) own =
-    ap (λ (n : ℕ). lone_pick n ∷ picks_made (lone_steps history)) (All-head (λ (t : ℕ × Outcome). t.0 ≡ core) taken history own)
-    ∙ ap (λ l. lone_pick core ∷ l) (lone_picks core history (All-tail (λ (t : ℕ × Outcome). t.0 ≡ core) taken history own))
+    ap (λ (n : ℕ). lone_pick n ∷ picks_made (lone_steps history))
+    (All-head (λ (t : ℕ × Outcome). t.0 ≡ core) taken history own)
+    ∙ ap (λ l. lone_pick core ∷ l)
+    (lone_picks core history (All-tail (λ (t : ℕ × Outcome). t.0 ≡ core) taken history own))
 
 told_none : (outcome : Outcome) → is_aborted_by outcome ≡ false → event_told outcome ≡ None
 told_none (AbortedBy by status) tells = cc
@@ -43,32 +47,38 @@ told_none Begun tells = refl
 told_none Inside tells = refl
 told_none Committed tells = refl
 
-pub lone_owed : (k : Setting) (a : State) (d : Doomed) (history : List (ℕ × Outcome)) → AreOwed k a d history → TellNoAbort history →
+pub lone_owed : (k : Setting) (a : State) (d : Doomed) (history : List (ℕ × Outcome)) → AreOwed k a d history
+    → TellNoAbort history →
     AreOwedUnder k a d (lone_steps history)
 lone_owed k a d [] owed tells = tt
 lone_owed k a d (taken ∷ history) owed tells =
     let P : ℕ × Outcome → Type 0 = λ t. is_aborted_by t.1 ≡ false in (
-      subst (λ (e : Option Event). IsOwedUnder e k a d taken.0 taken.1) (told_none taken.1 (All-head P taken history tells)) owed.0,
+      subst (λ (e : Option Event). IsOwedUnder e k a d taken.0 taken.1)
+          (told_none taken.1 (All-head P taken history tells)) owed.0,
       (elim (step k a taken.0 taken.1) as (λ t.
           MatchOption t ⊥ (λ b. AreOwed k b (doomed_after k a d taken.0 taken.1) history) →
           MatchOption t ⊥ (λ b. AreOwedUnder k b (doomed_after k a d taken.0 taken.1) (lone_steps history))) [
             | None ↦ λ never. absurd never
-            | Some b ↦ λ more. lone_owed k b (doomed_after k a d taken.0 taken.1) history more (All-tail P taken history tells)
+            | Some b ↦
+                λ more. lone_owed k b (doomed_after k a d taken.0 taken.1) history more (All-tail P taken history tells)
           ]) owed.1,
     )
 
 -- what a machine's own steps of a core come to
 machine_run : (before after : Machine) (core count : ℕ) (history : List (ℕ × Outcome)) → length history ≡ count →
     All (λ (taken : ℕ × Outcome). taken.0 ≡ core) history → TakesAll before after history →
-    (steps : List (Pick × Outcome)) × (picks_made steps ≡ replicate count (lone_pick core)) × AreMachineSteps before steps after
+    (steps : List (Pick × Outcome)) × (picks_made steps ≡ replicate count (lone_pick core))
+    × AreMachineSteps before steps after
 machine_run before after core count history size own takes = (
   lone_steps history,
   lone_picks core history own ∙ ap (λ n. replicate n (lone_pick core)) size,
   record {
     same = takes.same;
     goes_on = λ start state doomed earlier run.
-        subst (λ (l : List (ℕ × Outcome)). IsRun start after state doomed (earlier ++ l)) (sym (lone_history history)) (takes.runs start state doomed earlier run);
-    under = λ state doomed stands. lone_owed (machine_setting before) state doomed history (takes.takes state doomed stands).are_owed takes.tells;
+        subst (λ (l : List (ℕ × Outcome)). IsRun start after state doomed (earlier ++ l)) (sym (lone_history history))
+        (takes.runs start state doomed earlier run);
+    under = λ state doomed stands. lone_owed (machine_setting before) state doomed history
+        (takes.takes state doomed stands).are_owed takes.tells;
   },
 )
 

@@ -23,35 +23,43 @@ use Rattle.elide_setup.specs.Owing.{AreOwedUnder}
 use Rattle.elide_setup.specs.Schedules.{picks_made, picks_told}
 use Rattle.elide_setup.proofs.Walks.{picks_on}
 
-is_under : (events : Events) (kinds : Kinds) (event : Option Event) → AreDrawn events kinds → IsOfKinds kinds event → (kinds ≡ no_kinds → event ≡ None) → IsUnder events event
+is_under : (events : Events) (kinds : Kinds) (event : Option Event) → AreDrawn events kinds → IsOfKinds kinds event
+    → (kinds ≡ no_kinds → event ≡ None) → IsUnder events event
 is_under Never kinds event drawn of never = never drawn
 is_under (Rate many asked) kinds event drawn of never = subst (λ (k : Kinds). IsOfKinds k event) drawn of
 is_under Draw kinds event drawn of never = tt
 
-pub under_one : (events : Events) (kinds : Kinds) (pick : Pick) → AreDrawn events kinds → IsOfKinds kinds pick.event → (kinds ≡ no_kinds → pick.event ≡ None) →
+pub under_one : (events : Events) (kinds : Kinds) (pick : Pick) → AreDrawn events kinds → IsOfKinds kinds pick.event
+    → (kinds ≡ no_kinds → pick.event ≡ None) →
     AreUnder events (pick ∷ [])
 under_one events kinds pick drawn of never =
     let P : Pick → Type 0 = λ p. IsUnder events p.event in
     All-cons P pick [] (is_under events kinds pick.event drawn of never) (All-nil P)
 
 pub under_more : (events : Events) (kinds : Kinds) (steps : List (Pick × Outcome)) (pick : Pick) (outcome : Outcome) →
-    AreDrawn events kinds → IsOfKinds kinds pick.event → (kinds ≡ no_kinds → pick.event ≡ None) → AreUnder events (picks_made steps) →
+    AreDrawn events kinds → IsOfKinds kinds pick.event → (kinds ≡ no_kinds → pick.event ≡ None)
+    → AreUnder events (picks_made steps) →
     AreUnder events (picks_made (steps ++ (pick, outcome) ∷ []))
 under_more events kinds steps pick outcome drawn of never under =
     subst (λ (picks : List Pick). AreUnder events picks) (sym (picks_on steps ((pick, outcome) ∷ [])))
-    (All-append (λ (p : Pick). IsUnder events p.event) (picks_made steps) (pick ∷ []) under (under_one events kinds pick drawn of never))
+    (All-append (λ (p : Pick). IsUnder events p.event) (picks_made steps) (pick ∷ []) under
+    (under_one events kinds pick drawn of never))
 
 -- ---- the events that their outcomes tell
 
 -- where an outcome tells one, it is the one that it is owed under
 told_by : (by : Option Event) (setting : Setting) (memory : List ℕ) (core : Core) (doom : Option ℕ) →
-    (event_told (owed_under by setting memory core doom) ≡ None) ⊎ (event_told (owed_under by setting memory core doom) ≡ by)
+    (event_told (owed_under by setting memory core doom) ≡ None)
+    ⊎ (event_told (owed_under by setting memory core doom) ≡ by)
 told_by None setting memory core doom = inl (no_event_told setting memory core doom)
 told_by (Some (event.Abort by)) setting memory (Opened regs steps) None = inr refl
 told_by (Some (event.Abort by)) setting memory (Opened regs steps) (Some depth) = inl refl
-told_by (Some (event.Abort by)) setting memory (Closed regs) doom = inl (no_event_told setting memory (Closed regs) doom)
-told_by (Some (event.Abort by)) setting memory (Midway regs value) doom = inl (no_event_told setting memory (Midway regs value) doom)
-told_by (Some (event.Abort by)) setting memory (Halted regs stop) doom = inl (no_event_told setting memory (Halted regs stop) doom)
+told_by (Some (event.Abort by)) setting memory (Closed regs) doom =
+    inl (no_event_told setting memory (Closed regs) doom)
+told_by (Some (event.Abort by)) setting memory (Midway regs value) doom =
+    inl (no_event_told setting memory (Midway regs value) doom)
+told_by (Some (event.Abort by)) setting memory (Halted regs stop) doom =
+    inl (no_event_told setting memory (Halted regs stop) doom)
 
 none_under : (events : Events) → IsUnder events None
 none_under Never = refl
@@ -59,7 +67,8 @@ none_under (Rate many kinds) = tt
 none_under Draw = tt
 
 told_under : (events : Events) (setting : Setting) (state : State) (doomed : Doomed) (pick : Pick) (outcome : Outcome) →
-    IsUnder events pick.event → IsOwedUnder pick.event setting state doomed pick.core outcome → IsUnder events (event_told outcome)
+    IsUnder events pick.event → IsOwedUnder pick.event setting state doomed pick.core outcome
+    → IsUnder events (event_told outcome)
 told_under events setting state doomed pick outcome under owed =
     let core : Core = state.cores pick.core in
     elim (told_by pick.event setting state.memory core (doomed pick.core)) [
@@ -68,7 +77,8 @@ told_under events setting state doomed pick outcome under owed =
     ]
 
 -- so the picks that they tell come under those that may be drawn
-pub all_told_under : (events : Events) (setting : Setting) (state : State) (doomed : Doomed) (steps : List (Pick × Outcome)) →
+pub all_told_under : (events : Events) (setting : Setting) (state : State) (doomed : Doomed)
+    (steps : List (Pick × Outcome)) →
     AreOwedUnder setting state doomed steps → AreUnder events (picks_made steps) → AreUnder events (picks_told steps)
 all_told_under events setting state doomed [] owed under = All-nil (λ (p : Pick). IsUnder events p.event)
 all_told_under events setting state doomed (made ∷ steps) owed under =
@@ -76,7 +86,9 @@ all_told_under events setting state doomed (made ∷ steps) owed under =
     All-cons P (pick_of (made.0.core, made.1)) (picks_told steps)
     (told_under events setting state doomed made.0 made.1 (All-head P made.0 (picks_made steps) under) owed.0)
     ((elim (step setting state made.0.core made.1) as (λ t.
-    MatchOption t ⊥ (λ next. AreOwedUnder setting next (doomed_after setting state doomed made.0.core made.1) steps) → AreUnder events (picks_told steps)) [
+    MatchOption t ⊥ (λ next. AreOwedUnder setting next (doomed_after setting state doomed made.0.core made.1) steps)
+    → AreUnder events (picks_told steps)) [
       | None ↦ λ never. absurd never
-      | Some next ↦ λ more. all_told_under events setting next (doomed_after setting state doomed made.0.core made.1) steps more (All-tail P made.0 (picks_made steps) under)
+      | Some next ↦ λ more. all_told_under events setting next (doomed_after setting state doomed made.0.core made.1)
+          steps more (All-tail P made.0 (picks_made steps) under)
     ]) owed.1)

@@ -53,7 +53,8 @@ due_few (course.Drawn drawn) cores made pick due = due.few
 
 -- a run of a program has its cores
 pub has_core : (program : Program) (limits : Limits) (made : List (Pick × Outcome)) (machine : Machine) (pick : Pick)
-    (why : Refusal) → IsRunOf program limits made machine → pick.core < length program.entries → IsNoCore machine pick why → ⊥
+    (why : Refusal) → IsRunOf program limits made machine → pick.core < length program.entries
+    → IsNoCore machine pick why → ⊥
 has_core program limits made machine pick why ran below none =
     let same = ran.is_run.same.cores in
     let first = ran.cores in

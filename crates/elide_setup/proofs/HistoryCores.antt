@@ -1,5 +1,6 @@
 -- The steps of a history are of cores that its program has.
-use Rattle.std.proofs.Common.{◌≡◌, ◌<◌, ℕ, zero, suc, List, [], ◌∷◌, Option, Some, None, length, arith, refl, subst, sym, ap, inl, inr}
+use Rattle.std.proofs.Common.{◌≡◌, ◌<◌, ℕ, zero, suc, List, [], ◌∷◌, Option, Some, None, length, arith, refl, subst}
+use Rattle.std.proofs.Common.{sym, ap, inl, inr}
 use Rattle.std.specs.Prelude.{nat_lt, option_and_then, option_map, slice_get}
 use Rattle.std.proofs.lemmas.Bool.{cases_Bool}
 use Rattle.std.proofs.lemmas.Bool.Decides.{nat_tests}

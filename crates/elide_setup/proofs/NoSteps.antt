@@ -27,8 +27,10 @@ beyond (Err e) core cores exists none =
     omega (arith, never)
 
 -- its own step, or steps, tell that there is no such core
-pub no_core_told : {T E U : Type 0} (machine : Machine) (pick : Pick) (made : Result T E) (told : Result U Refusal) → (IsOk made ↔ (pick.core < length machine.views)) →
-    IfErr told (λ why. IsErr made × (why ≡ refusal.Fault (fault.Run run.NoSuchCore))) → IfErr told (IsNoCore machine pick)
+pub no_core_told : {T E U : Type 0} (machine : Machine) (pick : Pick) (made : Result T E) (told : Result U Refusal)
+    → (IsOk made ↔ (pick.core < length machine.views)) →
+    IfErr told (λ why. IsErr made × (why ≡ refusal.Fault (fault.Run run.NoSuchCore)))
+    → IfErr told (IsNoCore machine pick)
 no_core_told machine pick made told exists h =
     IfErr-weaker told (λ why. IsErr made × (why ≡ refusal.Fault (fault.Run run.NoSuchCore))) (IsNoCore machine pick)
     (λ why k. record { tells = k.1; beyond = beyond made pick.core (length machine.views) exists k.0 }) h
@@ -45,15 +47,20 @@ by_cause board pick made why step.LimitReached none room is tells = full (room.0
 pub no_step_told : {T U : Type 0} (board : Board) (pick : Pick) (made : Result T StepFault) (told : Result U Refusal) →
     ((made ≡ Err step.NoSuchCore) ↔ (length board.program.entries ≤ pick.core)) →
     ((made ≡ Err step.LimitReached) ↔ ((pick.core < length board.program.entries) × IsFull board)) →
-    IfErr told (λ why. (cause : StepFault) × (made ≡ Err cause) × (why ≡ refusal.Fault (fault.Step cause))) → IfErr told (IsNoStep board pick)
+    IfErr told (λ why. (cause : StepFault) × (made ≡ Err cause) × (why ≡ refusal.Fault (fault.Step cause)))
+    → IfErr told (IsNoStep board pick)
 no_step_told board pick made told none room h =
-    IfErr-weaker told (λ why. (cause : StepFault) × (made ≡ Err cause) × (why ≡ refusal.Fault (fault.Step cause))) (IsNoStep board pick)
+    IfErr-weaker told (λ why. (cause : StepFault) × (made ≡ Err cause) × (why ≡ refusal.Fault (fault.Step cause)))
+    (IsNoStep board pick)
     (λ why k. by_cause board pick made why k.0 none room k.1 k.2) h
 
 -- behind no step it is refused for the same reason
-pub no_step_before : (before between : Board) (core count : ℕ) (pick : Pick) (why : Refusal) (none : List (Pick × Outcome)) →
-    picks_made none ≡ replicate count (lone_pick core) → count ≡ 0 → AreBoardSteps before none between → IsNoStep between pick why → IsNoStep before pick why
+pub no_step_before : (before between : Board) (core count : ℕ) (pick : Pick) (why : Refusal)
+    (none : List (Pick × Outcome)) →
+    picks_made none ≡ replicate count (lone_pick core) → count ≡ 0 → AreBoardSteps before none between
+    → IsNoStep between pick why → IsNoStep before pick why
 no_step_before before between core count pick why none picks zero first (no_core many tells) =
     no_core (subst (λ (p : Program). length p.entries ≤ pick.core) first.same.program many) tells
 no_step_before before between core count pick why none picks zero first (full is tells) =
-    full (ap length (sym (same_behind_none before between core count none picks zero first)) ∙ is ∙ first.same.limit) tells
+    full (ap length (sym (same_behind_none before between core count none picks zero first)) ∙ is ∙ first.same.limit)
+    tells

@@ -12,7 +12,8 @@ use Rattle.tm_model.specs.declared.outcome.Outcome.{Outcome}
 use Rattle.tm_model.specs.declared.outcome.Pick.{Pick}
 
 -- a run that goes on by steps that are owed under their picks' events
-pub under_all : (k : Setting) (a : State) (d : Doomed) (steps others : List (Pick × Outcome)) (last : State) → AreOwedUnder k a d steps →
+pub under_all : (k : Setting) (a : State) (d : Doomed) (steps others : List (Pick × Outcome)) (last : State)
+    → AreOwedUnder k a d steps →
     run k a (history_made steps) ≡ Some last →
     AreOwedUnder k last (doomed_at_end k a d (history_made steps)) others →
     AreOwedUnder k a d (steps ++ others)
@@ -24,7 +25,9 @@ under_all k a d (made ∷ steps) others last owed is under = (
   (elim (step k a made.0.core made.1) as (λ t.
       MatchOption t ⊥ (λ b. AreOwedUnder k b (doomed_after k a d made.0.core made.1) steps) →
       option_and_then (λ b. run k b (history_made steps)) t ≡ Some last →
-      AreOwedUnder k last (elim t [ None ↦ d | Some b ↦ doomed_at_end k b (doomed_after k a d made.0.core made.1) (history_made steps) ]) others →
+      AreOwedUnder k last
+      (elim t [ None ↦ d | Some b ↦ doomed_at_end k b (doomed_after k a d made.0.core made.1) (history_made steps) ])
+      others →
       MatchOption t ⊥ (λ b. AreOwedUnder k b (doomed_after k a d made.0.core made.1) (steps ++ others))) [
         | None ↦ λ never _ _. absurd never
         | Some b ↦ λ h e u. under_all k b (doomed_after k a d made.0.core made.1) steps others last h e u
@@ -32,12 +35,15 @@ under_all k a d (made ∷ steps) others last owed is under = (
 )
 
 -- the last step of a run is allowed
-pub step_allowed : (k : Setting) (a : State) (history : List (ℕ × Outcome)) (core : ℕ) (o : Outcome) (last next : State) →
-    run k a history ≡ Some last → run k a (history ++ (core, o) ∷ []) ≡ Some next → MatchOption (step k last core o) ⊥ (λ _. Unit {0})
+pub step_allowed : (k : Setting) (a : State) (history : List (ℕ × Outcome)) (core : ℕ) (o : Outcome)
+    (last next : State) →
+    run k a history ≡ Some last → run k a (history ++ (core, o) ∷ []) ≡ Some next
+    → MatchOption (step k last core o) ⊥ (λ _. Unit {0})
 step_allowed k a [] core o last next is more =
     let same : a ≡ last = same_Some a last is in
     subst (λ (s : State). MatchOption (step k s core o) ⊥ (λ _. Unit {0})) same
-    ((elim (step k a core o) as (λ t. option_and_then (λ b. run k b []) t ≡ Some next → MatchOption t ⊥ (λ _. Unit {0})) [
+    ((elim (step k a core o)
+    as (λ t. option_and_then (λ b. run k b []) t ≡ Some next → MatchOption t ⊥ (λ _. Unit {0})) [
       | None ↦ λ e. cc
       | Some b ↦ λ e. tt
     ]) more)

@@ -9,18 +9,24 @@ use Rattle.elide_setup.specs.Schedules.{AreAsked, ArePlanned}
 use Rattle.elide_setup.specs.declared.plan.Plan.{Plan}
 use Rattle.elide_setup.specs.declared.plan.Plan.TheVariants as plan
 
-pub planned_before : (before after : List ℕ → Option (List ℕ)) (asked : Plan) (picks : List Pick) → ((path : List ℕ) → after path ≡ before path) →
+pub planned_before : (before after : List ℕ → Option (List ℕ)) (asked : Plan) (picks : List Pick)
+    → ((path : List ℕ) → after path ≡ before path) →
     ArePlanned after asked picks → ArePlanned before asked picks
 planned_before before after (plan.Steps listed) picks kept h = h
 planned_before before after (plan.File path) picks kept h =
     subst (λ (content : Option (List ℕ)). IfSome content (λ text. schedule_of text ≡ Ok picks)) (kept path.now) h
 planned_before before after (plan.Drawn drawn) picks kept h = h
 
-file_before : (before after : List ℕ → Option (List ℕ)) (path : Option (Bor (List ℕ))) (picks : List Pick) → ((other : List ℕ) → after other ≡ before other) →
-    IfSome path (λ p. IfSome (after p.now) (λ text. schedule_of text ≡ Ok picks)) → IfSome path (λ p. IfSome (before p.now) (λ text. schedule_of text ≡ Ok picks))
+file_before : (before after : List ℕ → Option (List ℕ)) (path : Option (Bor (List ℕ))) (picks : List Pick)
+    → ((other : List ℕ) → after other ≡ before other) →
+    IfSome path (λ p. IfSome (after p.now) (λ text. schedule_of text ≡ Ok picks))
+    → IfSome path (λ p. IfSome (before p.now) (λ text. schedule_of text ≡ Ok picks))
 file_before before after None picks kept h = tt
-file_before before after (Some path) picks kept h = subst (λ (content : Option (List ℕ)). IfSome content (λ text. schedule_of text ≡ Ok picks)) (kept path.now) h
+file_before before after (Some path) picks kept h =
+    subst (λ (content : Option (List ℕ)). IfSome content (λ text. schedule_of text ≡ Ok picks)) (kept path.now) h
 
-pub asked_before : (before after : List ℕ → Option (List ℕ)) (options : ScheduleOptions) (picks : List Pick) → ((other : List ℕ) → after other ≡ before other) →
+pub asked_before : (before after : List ℕ → Option (List ℕ)) (options : ScheduleOptions) (picks : List Pick)
+    → ((other : List ℕ) → after other ≡ before other) →
     AreAsked after options picks → AreAsked before options picks
-asked_before before after options picks kept h = record { steps = h.steps; file = file_before before after options.path picks kept h.file; drawn = h.drawn }
+asked_before before after options picks kept h =
+    record { steps = h.steps; file = file_before before after options.path picks kept h.file; drawn = h.drawn }

@@ -1,5 +1,6 @@
 -- What a schedule that is drawn is drawn from (docs/FORMATS.md, "Events that are drawn").
-use Rattle.std.specs.Prelude.{◌≡◌, ◌≢◌, ℕ, Bool, true, false, List, ⊤, All, Option, Some, None, option_and_then, zero, suc}
+use Rattle.std.specs.Prelude.{◌≡◌, ◌≢◌, ℕ, Bool, true, false, List, ⊤, All, Option, Some, None, option_and_then, zero}
+use Rattle.std.specs.Prelude.{suc}
 use Rattle.std.specs.Option.{option_copied}
 use Rattle.elide_args.specs.declared.subcommand.ScheduleOptions.{ScheduleOptions}
 use Rattle.tm_model.specs.declared.outcome.Event.{Event}

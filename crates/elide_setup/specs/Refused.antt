@@ -1,7 +1,8 @@
 -- Why a program, its machine or its schedule is not had (docs/FAULTS.md). Want of memory is a reason wherever memory is
 -- taken.
 use Rattle.std.specs.Prelude.{◌≡◌, ◌≤◌, ℕ, ◌<◌, ◌⊎◌, ◌||◌, Bool, true, false, not, if◌then◌else◌}
-use Rattle.std.specs.Prelude.{List, [], ◌∷◌, ◌++◌, length, Contains, Option, Some, None, Err, IfSome, IsSome, codes, is_some}
+use Rattle.std.specs.Prelude.{List, [], ◌∷◌, ◌++◌, length, Contains, Option, Some, None, Err, IfSome, IsSome, codes}
+use Rattle.std.specs.Prelude.{is_some}
 use Rattle.std.specs.Borrow.{Bor}
 use Rattle.std.specs.Option.{option_copied}
 use Rattle.elide_args.specs.declared.subcommand.MachineOptions.{MachineOptions}

@@ -16,8 +16,8 @@ use text_out::{Failed, Out};
 /// How many bytes are gathered before they are handed on.
 const ROOM: usize = 16384;
 
-/// A device that gathers text for another one. It hands the text on where its room is full, and at [`Gathered::finish`]; once
-/// the other device fails, each further call is a failure of this one. Takes no memory.
+/// A device that gathers text for another one. It hands the text on where its room is full, and at
+/// [`Gathered::finish`]; once the other device fails, each further call is a failure of this one. Takes no memory.
 #[derive(Drop)]
 pub struct Gathered<O> {
     out: O,
@@ -45,11 +45,12 @@ impl<O: Out + Drop> Gathered<O> {
         }
     }
 
-    /// Hands on what was gathered, and gives the other device back, which holds all that this one did. A failure only where one
-    /// of the two has failed.
+    /// Hands on what was gathered, and gives the other device back, which holds all that this one did. A failure only
+    /// where one of the two has failed.
     pub fn finish(self) -> Result<O, Failed>
         ensures ok { OnOk result ((⟦<Gathered<O> as Out>⟧.device self).failures ≡ 0) }
-        ensures kept { IfOk result (λ out. Keeps (⟦<Gathered<O> as Out>⟧.device self).contents (O.device out).contents) }
+        ensures kept { IfOk result
+            (λ out. Keeps (⟦<Gathered<O> as Out>⟧.device self).contents (O.device out).contents) }
         ensures err { OnErr result (((⟦<Gathered<O> as Out>⟧.device self).failures ≢ 0)
             ⊎ ((last : O) × Stopped (O.device self.out) (O.device last) self.row.items)) }
     {

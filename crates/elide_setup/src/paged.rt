@@ -26,15 +26,16 @@ pub enum Paged {
     TooLong,
 }
 
-/// What writes runs as pages. Commands that find a run are given it, so that they do not wait for the page's own crates.
+/// What writes runs as pages. Commands that find a run are given it, so that they do not wait for the page's own
+/// crates.
 pub trait Pages {
-    // A text, the last, is a page of the run of these steps: of the machine of these options, and of the program whose text FILE
-    // has.
+    // A text, the last, is a page of the run of these steps: of the machine of these options, and of the program whose
+    // text FILE has.
     ghost shows: { Self → MachineOptions → List ℕ → List Pick → List ℕ → Type 0 };
 
-    /// Writes the run of these steps to a file, as a whole or not at all: of the machine of these options and of the program
-    /// whose text FILE has. A run of more than 200,000 steps is [`Paged::TooLong`], and no other is. 81 `Output` where the file
-    /// cannot be written.
+    /// Writes the run of these steps to a file, as a whole or not at all: of the machine of these options and of the
+    /// program whose text FILE has. A run of more than 200,000 steps is [`Paged::TooLong`], and no other is. 81
+    /// `Output` where the file cannot be written.
     fn write_page<P: Paths>(
         &self,
         alloc: Global,

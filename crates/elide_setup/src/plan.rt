@@ -5,7 +5,8 @@
 //! [`Plan::course`] reads the schedule's file. Whether there is a core for each pick is not asked here, but before a
 //! walk or by its steps; the picks of a draw are made one by one in the walk, by what [`Drawn::picker`] gives.
 
-ghost use Rattle.std.specs.Prelude.{◌≡◌, ℕ, IfErr, IfOk, IfSome, List, MatchResult, None, Ok, OnOk, Option, Some, codes};
+ghost use Rattle.std.specs.Prelude.{◌≡◌, ℕ, IfErr, IfOk, IfSome, List, MatchResult, None, Ok, OnOk, Option, Some};
+ghost use Rattle.std.specs.Prelude.{codes};
 ghost use Rattle.std.specs.Prelude.{is_some, true};
 ghost use Rattle.std.specs.Option.{option_copied};
 ghost use Rattle.elide_args.specs.declared.subcommand.ScheduleOptions.{ScheduleOptions};
@@ -228,7 +229,8 @@ impl Drawn {
 // The seed of a schedule by chance, where it is one.
 fn seed_of(random: Option<&str>) -> Result<Option<u32>, Refusal>
     ensures seed { IfOk result (IsSeed (option_copied random.entry)) }
-    ensures none { IfErr result (λ why. (text : List ℕ) × (option_copied random.entry ≡ Some text) × (word32 text ≡ None)
+    ensures none { IfErr result
+        (λ why. (text : List ℕ) × (option_copied random.entry ≡ Some text) × (word32 text ≡ None)
         × IsMisuse (codes "--random") why) }
 {
     match random {
@@ -249,8 +251,8 @@ fn events_said(events: Option<&str>) -> Result<Events, Refusal>
     }
 }
 
-// What the events are drawn from. `--seed` says it where events are asked for and the schedule is not drawn by a seed of
-// its own.
+// What the events are drawn from. `--seed` says it where events are asked for and the schedule is not drawn by a seed
+// of its own.
 fn event_seed_of(options: &ScheduleOptions<'_>, random: Option<u32>) -> Result<u32, Refusal>
     ensures seed { IfOk result (IsEventSeed options.now random) }
     ensures none { IsSeed (option_copied options.now.random) random → IfErr result (IsMisplanned options.now) }
@@ -292,7 +294,8 @@ fn text_of<P: Paths>(path: &str, paths: &mut P) -> Result<Vec<u8>, Fault>
 // The steps of a schedule text.
 fn steps_of(alloc: Global, text: &[u8]) -> Result<Vec<Pick>, Refusal>
     ensures steps { IfOk result (λ picks. schedule_of text.now ≡ Ok picks.items) }
-    ensures none { (content : Option (List ℕ)) → Gives content most_bytes text.now → IfErr result (HasNoSchedule content) }
+    ensures none { (content : Option (List ℕ)) → Gives content most_bytes text.now
+        → IfErr result (HasNoSchedule content) }
 {
     match read_schedule(alloc, text) {
         Ok(steps) => Ok(steps),

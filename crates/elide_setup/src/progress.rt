@@ -3,7 +3,8 @@
 //! Nothing comes back, so that no answer depends on what is told. The line that a person sees is drawn by `elide`,
 //! which hands it in; who shows nothing hands in [`Silent`].
 
-/// A place that is told how far long work is. What it shows of that, and whether anything, is its own: no answer depends on it.
+/// A place that is told how far long work is. What it shows of that, and whether anything, is its own: no answer
+/// depends on it.
 pub trait Progress {
     /// So many of these things are done, of at most so many.
     fn tell(&mut self, done: u64, most: u64, things: &str);

@@ -26,7 +26,8 @@ pub fn record_path<'a, P: Paths>(
     ensures kept { (other : List ℕ) → P.content paths.new other ≡ P.content paths.old other }
     ensures steady { (one two : List ℕ) → P.are_one paths.new one two ≡ P.are_one paths.old one two }
     ensures given { IfOk result (λ given. given ≡ path.entry) }
-    ensures apart { IfOk result (λ _. IfSome path.entry (λ given. AreOne (P.are_one paths.old given.now file.now) false)) }
+    ensures apart { IfOk result
+        (λ _. IfSome path.entry (λ given. AreOne (P.are_one paths.old given.now file.now) false)) }
     ensures over { IfErr result (IsOverProgram (P.are_one paths.old) path.entry file.now) }
 {
     let Some(given) = path else {

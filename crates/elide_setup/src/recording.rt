@@ -30,8 +30,8 @@ use text_out::{Out, WriteFault};
 use tm_model::{Outcome, Pick};
 use tm_schedule::ScheduleWriter;
 
-/// Makes the steps that are drawn on a machine of so many cores, 1 to 64. Where there is a path, their schedule is written
-/// there as they are made; where a step is refused or the file cannot be written, what stood there stays.
+/// Makes the steps that are drawn on a machine of so many cores, 1 to 64. Where there is a path, their schedule is
+/// written there as they are made; where a step is refused or the file cannot be written, what stood there stays.
 pub fn walk_written<S: StepMaker, P: Paths, G: Progress>(
     drawn: Drawn,
     cores: u8,
@@ -163,7 +163,8 @@ impl<O: Out + Drop> Recorder<O> {
 impl<O: Out> Keeper for Recorder<O> {
     // Whatever steps follow, what is written of these stands before their text.
     ghost keeps = { λ before steps after. (bytes : List ℕ)
-        × ((rest : List Pick) → left_text before.writer (picks_told steps ++ rest) ≡ bytes ++ left_text after.writer rest)
+        × ((rest : List Pick)
+        → left_text before.writer (picks_told steps ++ rest) ≡ bytes ++ left_text after.writer rest)
         × Appends (⟦<Gathered<O> as Out>⟧.device before.page).contents
         (⟦<Gathered<O> as Out>⟧.device after.page).contents bytes };
 

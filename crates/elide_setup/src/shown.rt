@@ -7,7 +7,8 @@
 ghost use Rattle.std.specs.Prelude.{◌≡◌, MatchResult, false, length, true};
 ghost use Rattle.std.specs.List.{list_all};
 ghost use Rattle.text_out.specs.Writing.{Writes};
-ghost use Rattle.elide_setup.specs.Shown.{IsShownOf, IsWhole, are_held, doubleword, dump_text, dumps_text, is_dump_held, is_held};
+ghost use Rattle.elide_setup.specs.Shown.{IsShownOf, IsWhole, are_held, doubleword, dump_text, dumps_text};
+ghost use Rattle.elide_setup.specs.Shown.{is_dump_held, is_held};
 ghost use Rattle.elide_setup.specs.Shown.{is_value_held, parts_text, shown_text, value_line, value_text, values_text};
 
 use crate::fault::{Fault, Refusal};
@@ -39,7 +40,8 @@ pub fn shown_memory<'a>(
 ) -> Result<ShownMemory<'a>, Refusal>
     ensures { MatchResult result
         (IsShownOf bytes.entry.now parts.entry.now sums.entry.now)
-        (λ refusal. (refusal ≡ Refusal.Fault Fault.OutOfRange) × (are_held (length bytes.entry.now) parts.entry.now ≡ false)) }
+        (λ refusal. (refusal ≡ Refusal.Fault Fault.OutOfRange)
+        × (are_held (length bytes.entry.now) parts.entry.now ≡ false)) }
 {
     let dumps = parts.dumps.as_slice();
     let values = parts.values.as_slice();

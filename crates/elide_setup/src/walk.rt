@@ -21,7 +21,8 @@ ghost use Rattle.elide_setup.specs.declared.fault.Fault.TheVariants as fault;
 ghost use Rattle.elide_setup.specs.declared.fault.Refusal.{Refusal};
 ghost use Rattle.elide_setup.specs.declared.fault.Refusal.TheVariants as refusal;
 ghost use Rattle.elide_setup.specs.Runs.{AreBoardSteps, AreMachineSteps};
-ghost use Rattle.elide_setup.specs.Schedules.{AreOf, kept_of, listed_in, lone_pick, most_of, picks_made, picks_told, schedule_made};
+ghost use Rattle.elide_setup.specs.Schedules.{AreOf, kept_of, listed_in, lone_pick, most_of, picks_made, picks_told};
+ghost use Rattle.elide_setup.specs.Schedules.{schedule_made};
 ghost use Rattle.tm_hist.specs.Board.{IsOwedNext, SameBoard};
 ghost use Rattle.elide_setup.specs.Walks.{Leads};
 
@@ -58,7 +59,8 @@ pub trait StepMaker {
         ensures made { IfOk result (λ outcome. takes self.old ((pick, outcome) ∷ []) self.new) }
         ensures refused { IfErr result (refuses self.old pick) };
 
-    /// Makes steps of a core side by side, under no event: one at least, and at most so many, 1 or more. Answers how many.
+    /// Makes steps of a core side by side, under no event: one at least, and at most so many, 1 or more. Answers how
+    /// many.
     fn make_run(&mut self, core: u8, most: u32) -> Result<u32, Refusal>
         requires { 1 ≤ most }
         ensures steps { IfOk result (λ count. (steps : List (Pick × Outcome))
@@ -117,8 +119,8 @@ impl StepMaker for Board {
     }
 }
 
-// Up to so many steps of a core side by side, under no event. None, where there is no such core, or where it has stopped or
-// the history is full.
+// Up to so many steps of a core side by side, under no event. None, where there is no such core, or where it has
+// stopped or the history is full.
 fn board_steps(board: &mut Board, core: u8, most: u32) -> u32
     ensures steps { (steps : List (Pick × Outcome)) × (picks_made steps ≡ replicate result (lone_pick core))
         × AreBoardSteps board.old steps board.new }
@@ -206,10 +208,9 @@ impl Course {
         }
     }
 
-    /// Makes the steps on a machine of so many cores, 1 to 64: those of the list, or those that are drawn until all cores
-    /// have stopped or the limit is reached.
-    /// Answers the picks of those that were drawn, where `keeps` asks for them, each with the event that aborted it; else
-    /// it takes no memory.
+    /// Makes the steps on a machine of so many cores, 1 to 64: those of the list, or those that are drawn until all
+    /// cores have stopped or the limit is reached. Answers the picks of those that were drawn, where `keeps` asks for
+    /// them, each with the event that aborted it; else it takes no memory.
     pub fn walk<S: StepMaker, G: Progress>(
         &self,
         alloc: Global,
@@ -287,8 +288,8 @@ impl Course {
         }
     }
 
-    /// Writes the schedule that came about, where there is a path: the list, or the steps that were kept of those that were
-    /// drawn.
+    /// Writes the schedule that came about, where there is a path: the list, or the steps that were kept of those that
+    /// were drawn.
     pub fn record<P: Paths>(
         &self,
         path: Option<&str>,
@@ -426,7 +427,8 @@ fn walk_asked<S: StepMaker, G: Progress>(
     walk_drawn(drawn, cores, &mut Unkept, maker, progress)
 }
 
-/// Makes the steps that are drawn on a machine of so many cores, 1 to 64. Each is kept, with its outcome, as the keeper does.
+/// Makes the steps that are drawn on a machine of so many cores, 1 to 64. Each is kept, with its outcome, as the keeper
+/// does.
 pub fn walk_drawn<S: StepMaker, K: Keeper, G: Progress>(
     drawn: Drawn,
     cores: u8,

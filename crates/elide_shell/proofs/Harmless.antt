@@ -1,11 +1,14 @@
 -- No control character is written.
-use Rattle.std.proofs.Common.{◌≡◌, ℕ, ◌/◌, Bool, true, false, not, List, [], ◌∷◌, ◌++◌, length, Some, None, refl, sym, ◌∙◌, ap, append_assoc, append-nil, arith}
+use Rattle.std.proofs.Common.{◌≡◌, ℕ, ◌/◌, Bool, true, false, not, List, [], ◌∷◌, ◌++◌, length, Some, None, refl, sym}
+use Rattle.std.proofs.Common.{◌∙◌, ap, append_assoc, append-nil, arith}
 use Rattle.std.specs.Prelude.{if◌then◌else◌, ◌==◌}
 use Rattle.std.specs.Int.{is_in_range}
 use Rattle.std.specs.List.{flat_map, list_all}
 use Rattle.std.proofs.lemmas.Bool.{and_parts, eqb-true, or_from, or_parts}
 use Rattle.std.proofs.lemmas.Bool.Decides.{nat_tests}
-use Rattle.elide_shell.specs.Controls.{before_mark, behind_backslash, ends_control, escape, escaped, escaped_behind, escaped_byte, has_control, is_c1, is_of_control, letter_of, mark_byte, next_of, octal_digit}
+use Rattle.elide_shell.specs.Controls.{before_mark, behind_backslash, ends_control, escape, escaped, escaped_behind}
+use Rattle.elide_shell.specs.Controls.{escaped_byte, has_control, is_c1, is_of_control, letter_of, mark_byte, next_of}
+use Rattle.elide_shell.specs.Controls.{octal_digit}
 use Rattle.elide_shell.specs.declared.escapes.Mark.{Mark}
 use Rattle.elide_shell.specs.declared.escapes.Mark.TheVariants.{Backslash, DoubledQuote, Hash, Quote}
 use Rattle.elide_shell.specs.Shell.{is_plain, is_plain_word, quoted, quoted_byte, quoted_with_escapes, shell_word}
@@ -45,7 +48,8 @@ whole_more : (last before byte : ℕ) (text : List ℕ) → Calms last before �
     → has_control byte text ≡ false → has_control last (byte ∷ text) ≡ false
 whole_more last before byte text calms h rest =
     let parts = or_parts _ (is_c1 before byte) h in
-    or_from (ends_control last byte) (has_control byte text) (or_from _ (is_c1 last byte) parts.0 (calms byte parts.1)) rest
+    or_from (ends_control last byte) (has_control byte text)
+    (or_from _ (is_c1 last byte) parts.0 (calms byte parts.1)) rest
 
 -- ---- between single quotes
 
@@ -81,15 +85,18 @@ letter_more letter tail h rest = seen_more 92 letter tail h (rest letter h)
 escape_more : (last byte : ℕ) (tail : List ℕ) → ((last : ℕ) → is_seen last ≡ true → has_control last tail ≡ false)
     → has_control last (escape byte ++ tail) ≡ false
 escape_more last byte tail rest =
-    seen_more last 92 (behind_backslash (letter_of byte) byte ++ tail) refl (of (byte == 9) (byte == 10) (byte == 13)) where
+    seen_more last 92 (behind_backslash (letter_of byte) byte ++ tail) refl
+    (of (byte == 9) (byte == 10) (byte == 13)) where
       of : (tab feed back : Bool) → has_control 92 (behind_backslash (if tab then Some 116 else if feed then Some 110
           else if back then Some 114 else None) byte ++ tail) ≡ false
       of true feed back = letter_more 116 tail refl rest
       of false true back = letter_more 110 tail refl rest
       of false false true = letter_more 114 tail refl rest
       of false false false =
-          seen_more 92 (octal_digit (byte / 64)) (octal_digit (byte / 8) ∷ octal_digit byte ∷ tail) (digit_is_seen (byte / 64))
-          (seen_more (octal_digit (byte / 64)) (octal_digit (byte / 8)) (octal_digit byte ∷ tail) (digit_is_seen (byte / 8))
+          seen_more 92 (octal_digit (byte / 64)) (octal_digit (byte / 8) ∷ octal_digit byte ∷ tail)
+          (digit_is_seen (byte / 64))
+          (seen_more (octal_digit (byte / 64)) (octal_digit (byte / 8)) (octal_digit byte ∷ tail)
+          (digit_is_seen (byte / 8))
           (seen_more (octal_digit (byte / 8)) (octal_digit byte) tail (digit_is_seen byte)
           (rest (octal_digit byte) (digit_is_seen byte))))
 
@@ -113,7 +120,8 @@ byte_more true mark last before byte next tail calms e rest =
     escape_more last byte tail (λ l seen. rest l (seen_calms l byte seen))
 byte_more false mark last before byte next tail calms e rest = of (byte == 92) (byte == mark_byte mark) refl where
   of : (slash marked : Bool) → (byte == mark_byte mark) ≡ marked
-      → has_control last ((if slash then 92 ∷ 92 ∷ [] else if marked then before_mark mark ∷ byte ∷ [] else byte ∷ []) ++ tail)
+      → has_control last
+      ((if slash then 92 ∷ 92 ∷ [] else if marked then before_mark mark ∷ byte ∷ [] else byte ∷ []) ++ tail)
       ≡ false
   of true marked k = seen_more last 92 (92 ∷ tail) refl (seen_more 92 92 tail refl (rest 92 (seen_calms 92 byte refl)))
   of false true k =
@@ -144,7 +152,8 @@ word_has_none word = of (is_plain_word word) (has_control 0 word) refl refl wher
       let rest = escaped_behind Quote 0 word ++ 39 ∷ [] in
       seen_more 0 36 (39 ∷ rest) refl (seen_more 36 39 rest refl
       (escaped_has_none Quote 39 0 word (39 ∷ []) (seen_calms 39 0 refl) (λ l. seen_more l 39 [] refl refl)))
-  of false false e f = seen_more 0 39 (flat_map quoted_byte word ++ 39 ∷ []) refl (quoted_has_none 39 0 word (seen_calms 39 0 refl) f)
+  of false false e f =
+      seen_more 0 39 (flat_map quoted_byte word ++ 39 ∷ []) refl (quoted_has_none 39 0 word (seen_calms 39 0 refl) f)
 
 pub text_has_none : (mark : Mark) (text : List ℕ) → has_control 0 (escaped mark text) ≡ false
 unfolding escaped

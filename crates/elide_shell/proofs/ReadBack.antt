@@ -1,14 +1,18 @@
 -- What a shell reads of a word that was written.
-use Rattle.std.proofs.Common.{◌≡◌, ℕ, ◌+◌, ◌*◌, ◌/◌, ◌%◌, ◌<◌, Bool, true, false, not, List, [], ◌∷◌, ◌++◌, length, Option, Some, None, refl, sym, ◌∙◌, ap, append_assoc, arith}
+use Rattle.std.proofs.Common.{◌≡◌, ℕ, ◌+◌, ◌*◌, ◌/◌, ◌%◌, ◌<◌, Bool, true, false, not, List, [], ◌∷◌, ◌++◌, length}
+use Rattle.std.proofs.Common.{Option, Some, None, refl, sym, ◌∙◌, ap, append_assoc, arith}
 use Rattle.std.specs.Prelude.{if◌then◌else◌, ◌==◌, option_map, codes}
 use Rattle.std.specs.Int.{is_in_range}
 use Rattle.std.specs.List.{flat_map, list_all}
 use Rattle.std.proofs.lemmas.Bool.{and_parts, eqb-true, not-true}
 use Rattle.std.proofs.lemmas.Bool.Decides.{nat_tests}
-use Rattle.elide_shell.specs.Controls.{behind_backslash, escape, escaped, escaped_behind, escaped_byte, has_control, is_of_control, next_of, octal_digit}
+use Rattle.elide_shell.specs.Controls.{behind_backslash, escape, escaped, escaped_behind, escaped_byte, has_control}
+use Rattle.elide_shell.specs.Controls.{is_of_control, next_of, octal_digit}
 use Rattle.elide_shell.specs.declared.escapes.Mark.TheVariants.{Quote}
-use Rattle.elide_shell.specs.Reading.{Alone, Dollar, Escape, IsArgument, Move, Outside, Place, Second, Single, Third, Within, adding, move, moved, rest_of, to, word_read}
-use Rattle.elide_shell.specs.Shell.{begins_with_dash, is_plain, is_plain_word, named_path, path_word, quoted, quoted_byte, quoted_with_escapes, shell_word}
+use Rattle.elide_shell.specs.Reading.{Alone, Dollar, Escape, IsArgument, Move, Outside, Place, Second, Single, Third}
+use Rattle.elide_shell.specs.Reading.{Within, adding, move, moved, rest_of, to, word_read}
+use Rattle.elide_shell.specs.Shell.{begins_with_dash, is_plain, is_plain_word, named_path, path_word, quoted}
+use Rattle.elide_shell.specs.Shell.{quoted_byte, quoted_with_escapes, shell_word}
 
 -- what a place reads of a byte, by its move
 one : (place : Place) (byte : ℕ) (bytes : List ℕ) (m : Option Move) → move place byte ≡ m
@@ -88,7 +92,8 @@ octal_read byte tail h =
     let b = byte / 8 % 8 in
     let d = byte % 8 in
     passes (rest_of Escape (octal_digit (byte / 64) ∷ octal_digit (byte / 8) ∷ octal_digit byte ∷ tail))
-    ∙ one Escape (48 + a) (octal_digit (byte / 8) ∷ octal_digit byte ∷ tail) (to (Second a)) (escape_first a (omega arith))
+    ∙ one Escape (48 + a) (octal_digit (byte / 8) ∷ octal_digit byte ∷ tail) (to (Second a))
+    (escape_first a (omega arith))
     ∙ passes (rest_of (Second a) (octal_digit (byte / 8) ∷ octal_digit byte ∷ tail))
     ∙ one (Second a) (48 + b) (octal_digit byte ∷ tail) (to (Third (8 * a + b))) (second_digit a b (omega arith))
     ∙ passes (rest_of (Third (8 * a + b)) (octal_digit byte ∷ tail))
@@ -99,7 +104,8 @@ escape_read : (byte : ℕ) (tail : List ℕ) → is_in_range 1 255 byte ≡ true
     → rest_of Within (escape byte ++ tail) ≡ with_byte byte (rest_of Within tail)
 escape_read byte tail h = of (byte == 9) (byte == 10) (byte == 13) refl refl refl where
   of : (tab feed back : Bool) → (byte == 9) ≡ tab → (byte == 10) ≡ feed → (byte == 13) ≡ back
-      → rest_of Within (92 ∷ behind_backslash (if tab then Some 116 else if feed then Some 110 else if back then Some 114
+      → rest_of Within
+      (92 ∷ behind_backslash (if tab then Some 116 else if feed then Some 110 else if back then Some 114
       else None) byte ++ tail) ≡ with_byte byte (rest_of Within tail)
   of true feed back e f g = rw (eqb-true byte 9 e) (passes (with_byte 9 (rest_of Within tail)))
   of false true back e f g = rw (eqb-true byte 10 f) (passes (with_byte 10 (rest_of Within tail)))
@@ -138,7 +144,8 @@ escaped_read before (byte ∷ bytes) h =
 -- ---- words
 
 -- a text that is read from outside on, and is not empty
-begun : (text word : List ℕ) → rest_of Outside text ≡ Some word → (length text == 0) ≡ false → word_read text ≡ Some word
+begun : (text word : List ℕ) → rest_of Outside text ≡ Some word → (length text == 0) ≡ false
+    → word_read text ≡ Some word
 unfolding word_read
 begun [] word h some = absurd cc
 begun (byte ∷ bytes) word h some = h
@@ -166,5 +173,6 @@ unfolding path_word word_read
 path_reads path h = of (begins_with_dash path) where
   of : (dash : Bool) → word_read (if dash then codes "./" ++ shell_word path else shell_word path)
       ≡ Some (if dash then codes "./" ++ path else path)
-  of true = ap (λ rest. option_map (λ w. 46 ∷ w) (option_map (λ w. 47 ∷ w) rest)) (outside (shell_word path) path (word_reads path h))
+  of true = ap (λ rest. option_map (λ w. 46 ∷ w) (option_map (λ w. 47 ∷ w) rest))
+      (outside (shell_word path) path (word_reads path h))
   of false = word_reads path h

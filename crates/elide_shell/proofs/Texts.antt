@@ -7,7 +7,8 @@ use Rattle.text_out.proofs.Writing.{wrote_then}
 use Rattle.text_out.specs.Writing.{Device, Writes, Wrote}
 
 -- the first was written, and the second where a call is `Ok`
-pub then_on_ok : {T E : Type 0} {a b : Device} {x : List ℕ} (c : Device) (y : List ℕ) (r : Result T E) → Wrote a b x → OnOk r (Wrote b c y) → OnOk r (Wrote a c (x ++ y))
+pub then_on_ok : {T E : Type 0} {a b : Device} {x : List ℕ} (c : Device) (y : List ℕ) (r : Result T E) → Wrote a b x
+    → OnOk r (Wrote b c y) → OnOk r (Wrote a c (x ++ y))
 then_on_ok {T} {E} {a} {b} {x} c y r h k = on_ok_weaker r (λ (w : Wrote b c y). wrote_then h w) k
 
 -- what a call that may stop writes where it is `Ok`

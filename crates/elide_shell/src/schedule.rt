@@ -14,8 +14,8 @@ use tm_model::Pick;
 /// The most steps of a schedule that is printed in a command line.
 const MOST_SHOWN: usize = 1000;
 
-/// Writes the option that says a schedule, behind a space: its file, where it was recorded, and else its steps. Those of
-/// more than 1,000 steps are told by the words that say how it is recorded.
+/// Writes the option that says a schedule, behind a space: its file, where it was recorded, and else its steps. Those
+/// of more than 1,000 steps are told by the words that say how it is recorded.
 pub fn put_schedule<O: Out>(path: Option<&str>, picks: &[Pick], out: &mut O) -> Result<(), Failed>
     ensures { OnOk result (Wrote (O.device out.old) (O.device out.new) (schedule_text path.entry picks.now)) }
 {

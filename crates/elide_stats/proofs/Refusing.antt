@@ -15,14 +15,18 @@ use Rattle.elide_stats.specs.Refused.{IsUncounted, IsUncountedStep, unrecorded, 
 use Rattle.elide_stats.specs.declared.counting.Counting.{Counting}
 
 -- a step of a core that the machine has is not counted
-pub of_step : (machine : Machine) (pick : Pick) (why : Refusal) → pick.core < length machine.views → IsUncountedStep machine pick why → IsAnyWant why
-of_step machine pick why below (inl none) = let beyond : length machine.views ≤ pick.core = none.beyond in absurd (omega arith)
+pub of_step : (machine : Machine) (pick : Pick) (why : Refusal) → pick.core < length machine.views
+    → IsUncountedStep machine pick why → IsAnyWant why
+of_step machine pick why below (inl none) =
+    let beyond : length machine.views ≤ pick.core = none.beyond in absurd (omega arith)
 of_step machine pick why below (inr none) = none
 
 -- the steps of a walk are not made, or its schedule is not written
-pub of_walk : (same : AbortCause → AbortCause → Bool) (asked : Course) (cores : ℕ) (path : Option (Bor (List ℕ))) (before : Counting) (why : Refusal) →
+pub of_walk : (same : AbortCause → AbortCause → Bool) (asked : Course) (cores : ℕ) (path : Option (Bor (List ℕ)))
+    (before : Counting) (why : Refusal) →
     cores ≡ length before.machine.views → All (λ (pick : Pick). pick.core < cores) (listed_in asked) →
-    IsNoWalk (Counts same) (λ counting pick why. IsUncountedStep counting.machine pick why) asked cores before why ⊎ IsUnrecorded path why →
+    IsNoWalk (Counts same) (λ counting pick why. IsUncountedStep counting.machine pick why) asked cores before why
+    ⊎ IsUnrecorded path why →
     IsUncounted asked (length before.machine.views) path why
 of_walk same asked cores path before why has fit (inl (inl h)) =
     let kept : length h.after.machine.views ≡ length before.machine.views =

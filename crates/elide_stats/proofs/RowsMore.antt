@@ -1,5 +1,6 @@
 -- One more row.
-use Rattle.std.proofs.Common.{◌≡◌, ℕ, ◌+◌, ◌^◌, ◌<◌, ◌≤◌, ◌∙◌, List, [], ◌∷◌, ◌++◌, take, get_or, length, sym, subst, ap}
+use Rattle.std.proofs.Common.{◌≡◌, ℕ, ◌+◌, ◌^◌, ◌<◌, ◌≤◌, ◌∙◌, List, [], ◌∷◌, ◌++◌, take, get_or, length, sym, subst}
+use Rattle.std.proofs.Common.{ap}
 use Rattle.std.proofs.Common.{Option, Some, arith}
 use Rattle.std.specs.List.{AllZip}
 use Rattle.std.specs.Map.Iter.{deref_pair}
@@ -18,7 +19,8 @@ zip_push R (x' ∷ xs) [] x y h k = absurd h
 zip_push R (x' ∷ xs) (y' ∷ ys) x y h k = (h.0, zip_push R xs ys x y h.1 k)
 
 -- the row of the next entry
-pub zip_more : {A B : Type 0} (R : A → B → Type 0) (entries : List A) (index : ℕ) (entry : A) (rows more : List B) (row : B) →
+pub zip_more : {A B : Type 0} (R : A → B → Type 0) (entries : List A) (index : ℕ) (entry : A)
+    (rows more : List B) (row : B) →
     slice_get entries index ≡ Some entry → AllZip R (take index entries) rows → R entry row → more ≡ rows ++ row ∷ [] →
     AllZip R (take (index + 1) entries) more
 zip_more {A} {B} R entries index entry rows more row there h k is =
@@ -27,7 +29,8 @@ zip_more {A} {B} R entries index entry rows more row there h k is =
     take_more entries index entry within
     ∙ ap (λ (e : A). take index entries ++ e ∷ []) (get_or_from_slice_get entries index entry entry there) in
     subst (λ (r : List B). AllZip R (take (index + 1) entries) r) (sym is)
-    (subst (λ (e : List A). AllZip R e (rows ++ row ∷ [])) (sym one_more) (zip_push R (take index entries) rows entry row h k))
+    (subst (λ (e : List A). AllZip R e (rows ++ row ∷ [])) (sym one_more)
+    (zip_push R (take index entries) rows entry row h k))
 
 -- a sum with one more
 pub sum_more : {A : Type 0} (f : A → ℕ) (entries : List A) (index : ℕ) (entry : A) (told part next : ℕ) →
@@ -55,13 +58,15 @@ sum_at numbers index told next within so_far added = λ few.
     omega arith
 
 -- the entry that a map gives at an index
-pub entry_at : {K V : Type 0} (entries : List (K × V)) (index : ℕ) (given : Option (Bor K × Bor V)) (entry : Bor K × Bor V) →
+pub entry_at : {K V : Type 0} (entries : List (K × V)) (index : ℕ) (given : Option (Bor K × Bor V))
+    (entry : Bor K × Bor V) →
     option_map deref_pair given ≡ slice_get entries index → given ≡ Some entry →
     slice_get entries index ≡ Some (entry.0.now, entry.1.now)
 entry_at entries index given entry is there = sym is ∙ ap (option_map deref_pair) there
 
 -- the rows of all entries
-pub zip_all : {A B : Type 0} (R : A → B → Type 0) (entries : List A) (index : ℕ) (rows : List B) → length entries ≤ index →
+pub zip_all : {A B : Type 0} (R : A → B → Type 0) (entries : List A) (index : ℕ) (rows : List B)
+    → length entries ≤ index →
     AllZip R (take index entries) rows → AllZip R entries rows
 zip_all {A} {B} R entries index rows all h =
     subst (λ (e : List A). AllZip R e rows) (take_all index entries all) h

@@ -77,7 +77,8 @@ fn stats_of_path<P: Paths, O: Out, G: Progress>(
         × IsRead (P.content paths.old asked.now.options.now.machine.file.now) file
         × ((other : List ℕ) → given other ≡ P.content paths.old other)
         × HasRunPlan given (P.content paths.new) file asked.now.settings plan.entry asked.now.path) }
-    ensures refused { (content : List ℕ → Option (List ℕ)) → ((other : List ℕ) → P.content paths.old other ≡ content other)
+    ensures refused { (content : List ℕ → Option (List ℕ))
+        → ((other : List ℕ) → P.content paths.old other ≡ content other)
         → IfErr result (IsNotCounted content asked.now.options.now) }
 {
     let options = asked.options;
@@ -98,7 +99,8 @@ fn stats_of_text<P: Paths, O: Out, G: Progress>(
     requires { AreOfOptions asked.now plan }
     ensures ran { OnOk result ((file : ProgramFile) × IsFile text.now file
         × HasRunPlan (P.content paths.old) (P.content paths.new) file asked.now.settings plan.entry asked.now.path) }
-    ensures refused { (content : List ℕ → Option (List ℕ)) → ((other : List ℕ) → P.content paths.old other ≡ content other)
+    ensures refused { (content : List ℕ → Option (List ℕ))
+        → ((other : List ℕ) → P.content paths.old other ≡ content other)
         → Gives (content asked.now.options.now.machine.file.now) most_bytes text.now
         → IfErr result (IsNotCounted content asked.now.options.now) }
 {
@@ -121,7 +123,8 @@ fn stats_of_file<P: Paths, O: Out, G: Progress>(
     requires { AreOfOptions asked.now plan }
     ensures ran { OnOk result (HasRunPlan (P.content paths.old) (P.content paths.new) file.now asked.now.settings
         plan.entry asked.now.path) }
-    ensures refused { (content : List ℕ → Option (List ℕ)) → ((other : List ℕ) → P.content paths.old other ≡ content other)
+    ensures refused { (content : List ℕ → Option (List ℕ))
+        → ((other : List ℕ) → P.content paths.old other ≡ content other)
         → IsRead (content asked.now.options.now.machine.file.now) file.now
         → IfErr result (IsNotCounted content asked.now.options.now) }
 {

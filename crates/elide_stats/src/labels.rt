@@ -15,8 +15,8 @@ use std::alloc::{AllocError, Global};
 // The most bytes of memory that a machine has.
 const MOST_MEMORY: u32 = 268_435_456;
 
-/// The symbols of a source or of an executable, by their addresses: of a source those in its image and at its end, of an executable
-/// those from its first byte on. An image text has none.
+/// The symbols of a source or of an executable, by their addresses: of a source those in its image and at its end, of
+/// an executable those from its first byte on. An image text has none.
 #[derive(Drop)]
 pub struct Labels<'a> {
     list: Vec<Label<'a>>,
@@ -120,8 +120,8 @@ impl<'a> Labels<'a> {
         nearest
     }
 
-    /// The symbols on a line of 64 bytes, in the order of the source, with commas between; where none is, the last one below it,
-    /// with the distance, as `table+0x40`; a dash, where there is none, either.
+    /// The symbols on a line of 64 bytes, in the order of the source, with commas between; where none is, the last one
+    /// below it, with the distance, as `table+0x40`; a dash, where there is none, either.
     pub fn line(&self, alloc: Global, line: u32) -> Result<String, AllocError> {
         let mut text = String::new(alloc);
         for label in self.list.as_slice() {

@@ -119,8 +119,8 @@ fn machine_of(alloc: Global, board: &Board) -> Result<Machine, Refusal>
     }
 }
 
-/// Makes the steps of a board again on a machine of their own, and prints what its transactions came to. The file is that
-/// of the board's program.
+/// Makes the steps of a board again on a machine of their own, and prints what its transactions came to. The file is
+/// that of the board's program.
 pub fn tell_counts<O: Out, G: Progress>(
     alloc: Global,
     board: &Board,

@@ -21,7 +21,8 @@ no_float_test : (report : TestReport) → has_float (test_value report) ≡ fals
 no_float_test report =
     let line = option_map string_bytes report.refusal in
     no_float_both (has_float (unmet_value report.difference)) (has_float (refusal_value line) || false)
-    (no_float_unmet report.difference) (no_float_both (has_float (refusal_value line)) false (no_float_refusal line) refl)
+    (no_float_unmet report.difference)
+    (no_float_both (has_float (refusal_value line)) false (no_float_refusal line) refl)
 
 no_float_file : (file : FileReport) → has_float (file_value file) ≡ false
 no_float_file file =

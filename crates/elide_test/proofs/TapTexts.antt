@@ -1,12 +1,14 @@
 -- The texts of one more test, and of one more file.
-use Rattle.std.proofs.Common.{◌≡◌, ℕ, ◌+◌, ◌<◌, List, [], ◌∷◌, ◌++◌, ◌∙◌, ap, arith, sym, take, get_or, length, append_assoc}
+use Rattle.std.proofs.Common.{◌≡◌, ℕ, ◌+◌, ◌<◌, List, [], ◌∷◌, ◌++◌, ◌∙◌, ap, arith, sym, take, get_or, length}
+use Rattle.std.proofs.Common.{append_assoc}
 use Rattle.std.proofs.lemmas.Grind.{common_steps}
 use Rattle.std.proofs.lemmas.List.{take_more}
 use Rattle.elide_test.specs.Tap.{count_of, file_text, files_text, test_text, tests_text}
 use Rattle.elide_test.specs.declared.report.FileReport.{FileReport}
 use Rattle.elide_test.specs.declared.report.TestReport.{TestReport}
 
-pub tests_push : (file : List ℕ) (before : ℕ) (xs : List TestReport) (x : TestReport) (n : ℕ) → n ≡ before + length xs + 1 →
+pub tests_push : (file : List ℕ) (before : ℕ) (xs : List TestReport) (x : TestReport) (n : ℕ)
+    → n ≡ before + length xs + 1 →
     tests_text file before (xs ++ x ∷ []) ≡ tests_text file before xs ++ test_text file n x
 tests_push file before [] x n e =
     let same : n ≡ before + 1 = omega arith in grind (arith, common_steps, same)
@@ -20,7 +22,8 @@ pub tests_more : (file : List ℕ) (before : ℕ) (xs : List TestReport) (i : �
     tests_text file before (take (i + 1) xs) ≡ tests_text file before (take i xs) ++ test_text file n (get_or xs i d)
 tests_more file before xs i d n h e =
     let long : length (take i xs) ≡ i = grind (arith, common_steps) in
-    ap (tests_text file before) (take_more xs i d h) ∙ tests_push file before (take i xs) (get_or xs i d) n (omega arith)
+    ap (tests_text file before) (take_more xs i d h)
+    ∙ tests_push file before (take i xs) (get_or xs i d) n (omega arith)
 
 pub files_push : (before : ℕ) (xs : List FileReport) (x : FileReport) (n : ℕ) → n ≡ before + count_of xs →
     files_text before (xs ++ x ∷ []) ≡ files_text before xs ++ file_text n x

@@ -1,5 +1,6 @@
 -- What it means that tests were carried out (docs/FORMATS.md, "Tests").
-use Rattle.std.specs.Prelude.{◌≡◌, ℕ, List, [], ◌∷◌, ◌++◌, codes, map, Option, Some, None, Ok, IsSomeAnd, option_map, string_bytes}
+use Rattle.std.specs.Prelude.{◌≡◌, ℕ, List, [], ◌∷◌, ◌++◌, codes, map, Option, Some, None, Ok, IsSomeAnd, option_map}
+use Rattle.std.specs.Prelude.{string_bytes}
 use Rattle.std.specs.Prelude.{nat_eq, if◌then◌else◌}
 use Rattle.std.specs.Fmt.{decimal}
 use Rattle.std.specs.List.{AllZip, ends_with}

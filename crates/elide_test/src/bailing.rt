@@ -84,7 +84,8 @@ fn bail_out<O: Out + Drop>(
 
 // `Bail out!`, the file, and the line that tells the fault.
 fn tell_bail<O: Out>(name: &str, fault: Fault, out: &mut O) -> Result<(), WriteFault>
-    ensures { OnOk result ((word : List ℕ) × Wrote (O.device out.old) (O.device out.new) (bail_line name.now fault word)) }
+    ensures { OnOk result
+        ((word : List ℕ) × Wrote (O.device out.old) (O.device out.new) (bail_line name.now fault word)) }
 {
     out.put(b"Bail out! ")?;
     tell_text(name, out)?;

@@ -61,7 +61,8 @@ fn tell_status<O: Out>(status: u8, out: &mut O) -> Result<(), WriteFault>
 
 // Prints the line by which a command was refused, if it was.
 fn tell_refusal<O: Out>(refusal: &Option<String>, out: &mut O) -> Result<(), WriteFault>
-    ensures { OnOk result (Wrote (O.device out.old) (O.device out.new) (refusal_text (option_map string_bytes refusal.now))) }
+    ensures { OnOk result
+        (Wrote (O.device out.old) (O.device out.new) (refusal_text (option_map string_bytes refusal.now))) }
 {
     match refusal {
         None => Ok(()),
@@ -70,7 +71,8 @@ fn tell_refusal<O: Out>(refusal: &Option<String>, out: &mut O) -> Result<(), Wri
 }
 
 fn tell_stderr<O: Out>(line: &str, out: &mut O) -> Result<(), WriteFault>
-    ensures { OnOk result (Wrote (O.device out.old) (O.device out.new) (codes "  stderr: " ++ (scalar line.now ++ line_end))) }
+    ensures { OnOk result
+        (Wrote (O.device out.old) (O.device out.new) (codes "  stderr: " ++ (scalar line.now ++ line_end))) }
 {
     out.put(b"  stderr: ")?;
     tell_scalar(line, out)?;

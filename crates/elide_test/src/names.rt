@@ -13,8 +13,8 @@ use elide_program::{Obstacle, ReadFault};
 use std::alloc::{AllocError, Global};
 use std::str;
 
-/// The paths of the files with tests: those of the command line and then those of `--list`. A folder stands for those in it
-/// whose names end in `.asm` or `.elide`, in the order of their names.
+/// The paths of the files with tests: those of the command line and then those of `--list`. A folder stands for those
+/// in it whose names end in `.asm` or `.elide`, in the order of their names.
 pub fn names_of<S: SharedPaths>(
     alloc: Global,
     options: &TestOptions<'_>,

@@ -1,6 +1,7 @@
 //! The object that `--json` prints (docs/JSON.md, "test").
 //!
-//! [`tell_object`] is the one call: the files, their tests and the exit status are sent in the order in which they stand.
+//! [`tell_object`] is the one call: the files, their tests and the exit status are sent in the order in which they
+//! stand.
 
 ghost use Rattle.std.specs.Prelude.{◌≡◌, IfOk, OnOk, codes, option_map, string_bytes};
 ghost use Rattle.std.specs.Io.KnownBytes.{Appends};

@@ -11,8 +11,8 @@ ghost use Rattle.elide_test.specs.Refusals.{is_refusal, refusal_of};
 use elide_expect::CameTo;
 use std::alloc::{AllocError, Global};
 
-/// The first line on standard error that says why a command was refused: a fault, a misused option, or words that are those
-/// of no command.
+/// The first line on standard error that says why a command was refused: a fault, a misused option, or words that are
+/// those of no command.
 pub fn refusal_in(alloc: Global, errors: &[u8]) -> Result<Option<String>, AllocError>
     ensures { IfOk result (λ refusal. option_map string_bytes refusal ≡ refusal_of errors.now) }
 {

@@ -8,8 +8,8 @@ use std::sync::Mutex;
 use std::sync::atomic::{AtomicU64, Ordering};
 use tm_work::Watch;
 
-/// Tells a place how far workers are. They share it: one that comes while another tells passes on, so that none waits; and
-/// the greatest number is told, since that of one worker may come after a greater one of another.
+/// Tells a place how far workers are. They share it: one that comes while another tells passes on, so that none waits;
+/// and the greatest number is told, since that of one worker may come after a greater one of another.
 #[derive(Drop)]
 pub struct Told<'a, G> {
     progress: Mutex<&'a mut G>,

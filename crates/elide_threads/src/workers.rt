@@ -5,7 +5,8 @@
 //! written, and only then something printed: the reasons, and below them the counts, or the state and what is shown of
 //! memory. Reasons and counts are made of the history, behind the run; the workers themselves are `tm_work`'s.
 
-ghost use Rattle.std.specs.Prelude.{◌≡◌, ◌*◌, ◌⊎◌, [], ℕ, Bool, IfErr, IfOk, List, MatchResult, None, Option, Some, codes, false};
+ghost use Rattle.std.specs.Prelude.{◌≡◌, ◌*◌, ◌⊎◌, [], ℕ, Bool, IfErr, IfOk, List, MatchResult, None, Option, Some};
+ghost use Rattle.std.specs.Prelude.{codes, false};
 ghost use Rattle.std.specs.Prelude.{length, replicate, true};
 ghost use Rattle.std.specs.Option.{option_copied};
 ghost use Rattle.text_out.specs.Writing.{Wrote};
@@ -56,11 +57,11 @@ use tm_work::{Burst, EventPlan, WorkFault, run_steadily};
 // What events are drawn from where no seed is given.
 const FIRST_SEED: u32 = 1;
 
-/// Runs each core on a thread of its own, writes the schedule that came about where it is asked for, and prints the aborts
-/// with their reasons where these are asked for, and then what the transactions came to, or where that is not asked for
-/// the state and what is asked for of memory, as lines or as one object (docs/JSON.md, "threads"), which has no reasons. While the
-/// cores run, `progress` is told how many steps the history has. `names` says whether a reason names code where the subset ends.
-/// Gives the device back.
+/// Runs each core on a thread of its own, writes the schedule that came about where it is asked for, and prints the
+/// aborts with their reasons where these are asked for, and then what the transactions came to, or where that is not
+/// asked for the state and what is asked for of memory, as lines or as one object (docs/JSON.md, "threads"), which has
+/// no reasons. While the cores run, `progress` is told how many steps the history has. `names` says whether a reason
+/// names code where the subset ends. Gives the device back.
 ///
 /// [`Refusal::Usage`] of `--json`, where reasons and no counts are asked for too.
 pub fn threads<R: Threads + Wait + Sync + AllocGlobal, P: Paths, O: Out + Drop, G: Progress + Send>(
@@ -155,7 +156,8 @@ fn threads_of_text<
     progress: &mut G,
 ) -> Result<O, Refusal>
     ensures refused { (content : List ℕ → Option (List ℕ)) (are_one : List ℕ → List ℕ → Option Bool) →
-        Gives (content options.now.machine.file.now) most_bytes text.now → AreSettings options.now.machine settings.now →
+        Gives (content options.now.machine.file.now) most_bytes text.now
+        → AreSettings options.now.machine settings.now →
         number_said (option_copied options.now.budget) ≡ Some work.entry.budget →
         plan_said (option_copied options.now.events) (option_copied options.now.seed) ≡ Some work.entry.plan →
         work.entry.path ≡ options.now.«record» → IfErr result (IsRefused content are_one options.now) }
@@ -250,7 +252,8 @@ fn tell_run<O: Out + Drop, G: Progress>(
     progress: &mut G,
 ) -> Result<O, Refusal>
     requires { options.now.explains ≡ false → places ≡ None }
-    ensures told { IfOk result (λ given. IsTold options.now setup.now board.now (O.device out).contents (O.device given).contents) }
+    ensures told { IfOk result
+        (λ given. IsTold options.now setup.now board.now (O.device out).contents (O.device given).contents) }
     ensures refused { IfErr result (IsNotTold setup.now board.now) }
 {
     let mut page = Gathered::new(out);
@@ -437,7 +440,8 @@ fn tell_asked<O: Out>(
 // Prints the state and what is asked for of memory.
 fn tell<O: Out>(board: &Board, setup: &Setup, sums: &[&str], out: &mut O) -> Result<(), Refusal>
     ensures refused { IfErr result (IsNotTold setup.now board.now) }
-    ensures told { IfOk result (λ _. (memory : ShownMemory) × IsShownOf board.now.machine.memory setup.now.parts sums.now memory
+    ensures told { IfOk result
+        (λ _. (memory : ShownMemory) × IsShownOf board.now.machine.memory setup.now.parts sums.now memory
         × Wrote (O.device out.old) (O.device out.new) (shown_text board.now.machine memory)) }
 {
     let machine = board.machine();

@@ -1,7 +1,8 @@
 //! What a command that tells instructions begins with: the labels of its program.
 //!
-//! Promised: the program and the schedule are those of the options and of FILE's content, in the words of `elide_setup`. Which labels
-//! a program has is compared by `doc_tests`. Stands on `elide_setup`, and on `elide_places` for the labels.
+//! Promised: the program and the schedule are those of the options and of FILE's content, in the words of
+//! `elide_setup`. Which labels a program has is compared by `doc_tests`. Stands on `elide_setup`, and on `elide_places`
+//! for the labels.
 #![tactic(auto)]
 
 mod labels;

@@ -27,8 +27,8 @@ use elide_program::{Paths, ProgramFile, Settings, read_file};
 use elide_setup::{Course, Plan, Refusal, Setup, planned};
 use std::alloc::{AllocError, Global};
 
-/// The program, the schedule and the labels of FILE, as [`elide_setup::scheduled`] answers them without the labels. FILE is
-/// read once.
+/// The program, the schedule and the labels of FILE, as [`elide_setup::scheduled`] answers them without the labels.
+/// FILE is read once.
 pub fn scheduled_labels<P: Paths>(
     alloc: Global,
     machine: &MachineOptions<'_>,
@@ -41,7 +41,8 @@ pub fn scheduled_labels<P: Paths>(
     ensures listed { IfOk result (λ r. form_of r.1 ≡ form_asked schedule.now) }
     ensures out { IfOk result (λ r. (cores : ℕ) (steps : List (Pick × Outcome)) → IsOut r.1 cores steps →
         IsAskedOut schedule.now cores steps) }
-    ensures none { IfErr result (λ why. IsNotScheduled (P.content paths.old) machine.now schedule.now why ⊎ (why ≡ want)) }
+    ensures none { IfErr result
+        (λ why. IsNotScheduled (P.content paths.old) machine.now schedule.now why ⊎ (why ≡ want)) }
 {
     let settings = Settings::read(machine)?;
     let plan = Plan::read(alloc, schedule)?;

@@ -19,8 +19,8 @@ use std::thread::Threads;
 use text_out::{Failed, ToVec};
 use tm_debug::In;
 
-/// Carries out a command: its words without the program's name, the files that it reads, and the device that it writes to. It has no
-/// input.
+/// Carries out a command: its words without the program's name, the files that it reads, and the device that it writes
+/// to. It has no input.
 pub fn command_end<R: Threads + Wait + Sync + AllocGlobal, S: SharedPaths>(
     rt: &R,
     words: &[&str],
@@ -47,8 +47,8 @@ pub fn command_end<R: Threads + Wait + Sync + AllocGlobal, S: SharedPaths>(
     }
 }
 
-/// What a command of a test came to, which a call carries out: its relative paths are seen from a folder, or as they are where there
-/// is none. Refused for want of memory alone.
+/// What a command of a test came to, which a call carries out: its relative paths are seen from a folder, or as they
+/// are where there is none. Refused for want of memory alone.
 pub fn carried_out<S: SharedPaths, C: Fn(&[&str], FolderPaths<'_, S>, ToVec) -> CommandEnd>(
     alloc: Global,
     folder: Option<&str>,

@@ -22,8 +22,8 @@ use std::thread::Threads;
 use text_out::{Out, ToVec};
 use tm_debug::In;
 
-/// Does what the words say, and gives the exit status, as `elide_command` does, but for `test`, which ends with 0 where each test
-/// passes and with 3 where one fails.
+/// Does what the words say, and gives the exit status, as `elide_command` does, but for `test`, which ends with 0 where
+/// each test passes and with 3 where one fails.
 pub fn command<
     R: Threads + Wait + Sync + AllocGlobal,
     P: Paths + SharedPaths + Sync,
@@ -102,9 +102,9 @@ fn tried<R: Threads + Wait + Sync + AllocGlobal, S: SharedPaths + Sync, O: Out>(
     Ok(answer)
 }
 
-/// Tries files, each of whose commands is carried out by a call: with its words, the files as they are seen from the folder that it
-/// stands in, and an empty device. Prints what they came to, and answers whether each passed. Gives the device back. Up to a file
-/// that cannot be tried the others are told.
+/// Tries files, each of whose commands is carried out by a call: with its words, the files as they are seen from the
+/// folder that it stands in, and an empty device. Prints what they came to, and answers whether each passed. Gives the
+/// device back. Up to a file that cannot be tried the others are told.
 pub fn test<
     R: Threads + Sync + AllocGlobal,
     S: SharedPaths + Sync,
@@ -112,7 +112,8 @@ pub fn test<
     O: Out + Drop,
 >(rt: &R, options: &TestOptions<'_>, paths: &S, call: &C, out: O) -> Result<(Answer, O), Refusal>
     requires { C.IsAlwaysCallable call.now }
-    ensures { IfOk result (λ r. IsPrinted (S.holds paths.now) (CameTo (C.post call.now) paths.now) options.now.is_json r.0
+    ensures { IfOk result
+        (λ r. IsPrinted (S.holds paths.now) (CameTo (C.post call.now) paths.now) options.now.is_json r.0
         (O.device out).contents (O.device r.1).contents) }
 {
     if options.files.is_empty() && options.list.is_none() {

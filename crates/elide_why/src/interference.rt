@@ -19,8 +19,8 @@ use text_out::{Out, WriteFault};
 use tm_hist::interference_text;
 use tm_model::Interference;
 
-/// Writes the outcome line of an abort from outside of the program with this status: what came, the place and text of the
-/// instruction that was next, and when the transaction began.
+/// Writes the outcome line of an abort from outside of the program with this status: what came, the place and text of
+/// the instruction that was next, and when the transaction began.
 ///
 /// [`WriteFault::Write`], where the device failed: a beginning of the line was written.
 pub fn write_interference<O: Out>(
@@ -45,7 +45,8 @@ pub fn write_interference<O: Out>(
 #[tactic(auto, unfolding(crate::specs::Interference::interference_front))]
 fn push_front(page: &mut Page, core: u8, interference: Interference, status: u32, words: &Words<'_>)
     requires { array_vec_len page.old ≡ 0 }
-    ensures { page.new.items ≡ page.old.items ++ interference_front core (interference_word interference) status words.now }
+    ensures { page.new.items
+        ≡ page.old.items ++ interference_front core (interference_word interference) status words.now }
 {
     push_decimal(page, u64::from(core));
     push(page, b" aborted ");

@@ -26,8 +26,8 @@ use elide_program::{Paths, ProgramFile, Settings, read_file};
 use elide_setup::{Course, Plan, Refusal, Setup, planned};
 use std::alloc::Global;
 
-/// What the reasons of a history are told by: the places of the program's text, and whether code where the subset ends is
-/// named.
+/// What the reasons of a history are told by: the places of the program's text, and whether code where the subset ends
+/// is named.
 #[derive(Drop)]
 pub struct NamedPlaces {
     /// The places.
@@ -36,8 +36,8 @@ pub struct NamedPlaces {
     pub names: bool,
 }
 
-/// The program, the schedule and the places of FILE, as [`elide_setup::scheduled`] answers them without the places. FILE is
-/// read once.
+/// The program, the schedule and the places of FILE, as [`elide_setup::scheduled`] answers them without the places.
+/// FILE is read once.
 pub fn scheduled_places<P: Paths>(
     alloc: Global,
     machine: &MachineOptions<'_>,
@@ -50,7 +50,8 @@ pub fn scheduled_places<P: Paths>(
     ensures listed { IfOk result (λ r. form_of r.1 ≡ form_asked schedule.now) }
     ensures out { IfOk result (λ r. (cores : ℕ) (steps : List (Pick × Outcome)) → IsOut r.1 cores steps →
         IsAskedOut schedule.now cores steps) }
-    ensures none { IfErr result (λ why. IsNotScheduled (P.content paths.old) machine.now schedule.now why ⊎ (why ≡ want)) }
+    ensures none { IfErr result
+        (λ why. IsNotScheduled (P.content paths.old) machine.now schedule.now why ⊎ (why ≡ want)) }
 {
     let settings = Settings::read(machine)?;
     let plan = Plan::read(alloc, schedule)?;

@@ -26,8 +26,8 @@ use tm_model::{Interference, Outcome, Pick};
 use tm_rule::Stop;
 use tm_why::{Asked, Reason, Watch};
 
-/// Makes the steps of a run and tells of each that aborts why it does, of each that stops where the subset ends which code stands
-/// there, and of the others where they are asked for.
+/// Makes the steps of a run and tells of each that aborts why it does, of each that stops where the subset ends which
+/// code stands there, and of the others where they are asked for.
 #[derive(Drop)]
 pub struct Teller<'a> {
     program: &'a Program,
@@ -102,8 +102,8 @@ impl<'a> Teller<'a> {
     }
 
     // Prints the line of a step, where it is told. Told is what came of it: an abort from outside comes in its place,
-    // whatever reason it had to be one. The lines are calls of their own, so that a step that is not told clears none of
-    // their texts.
+    // whatever reason it had to be one. The lines are calls of their own, so that a step that is not told clears none
+    // of their texts.
     fn tell<O: Out>(
         &self,
         outcome: Outcome,

@@ -24,9 +24,9 @@ use tm_why::Reason;
 /// How many bytes of a path are told.
 const PATH_ROOM: usize = 1024;
 
-/// Where an instruction stands: the source and its line, as `lock.asm:11`; of an executable the symbol of its code with the
-/// distance, and the line of its source where the executable tells it, as `insert+0x1c (list.c:41)`; or else the address in
-/// eight hex digits.
+/// Where an instruction stands: the source and its line, as `lock.asm:11`; of an executable the symbol of its code with
+/// the distance, and the line of its source where the executable tells it, as `insert+0x1c (list.c:41)`; or else the
+/// address in eight hex digits.
 pub type PlaceText = ArrayVec<u8, 1100>;
 
 /// What the text of a program says of a reason.
@@ -89,7 +89,8 @@ impl<'a> Words<'a> {
         }
     }
 
-    /// What a program, of the source or image at this path and with these places, says of the instruction at an address.
+    /// What a program, of the source or image at this path and with these places, says of the instruction at an
+    /// address.
     pub fn at(program: &'a Program, path: &str, places: &Places, eip: u32) -> Words<'a>
         ensures { result.eip ≡ eip }
     {

@@ -4,7 +4,8 @@ ghost use Rattle.std.specs.Prelude.{◌≡◌, ◌+◌, ◌*◌, ◌≤◌, ◌�
 ghost use Rattle.arrayvec.specs.ArrayVec.{array_vec_len};
 ghost use Rattle.hex.specs.Hex.{encode_lower};
 ghost use Rattle.text_out.specs.Writing.{Writes};
-ghost use Rattle.gdb_packet.specs.Packet.{checksum, checksum_digits, escaped, escaped_byte, framed, is_bound, is_escaped};
+ghost use Rattle.gdb_packet.specs.Packet.{checksum, checksum_digits, escaped, escaped_byte, framed, is_bound};
+ghost use Rattle.gdb_packet.specs.Packet.{is_escaped};
 ghost use Rattle.gdb_packet.specs.Packet.{unescaped};
 
 use arrayvec::ArrayVec;
@@ -71,8 +72,8 @@ fn push_escaped(row: &mut Framed, bytes: &[u8])
     }
 }
 
-// Makes an empty row the packet that tells these bytes. The row is lent: one that is given back would stand on the stack
-// three times.
+// Makes an empty row the packet that tells these bytes. The row is lent: one that is given back would stand on the
+// stack three times.
 fn frame(row: &mut Framed, bytes: &[u8])
     requires empty { row.old.items ≡ [] }
     requires few { length bytes.now ≤ 16384 }

@@ -5,7 +5,8 @@
 ghost use Rattle.std.specs.Prelude.{◌≡◌, ◌++◌, ◌∷◌, ℕ, List, codes, false, nat_eq};
 ghost use Rattle.std.specs.List.{starts_with};
 ghost use Rattle.gdb_packet.specs.Actions.{IsToldMove, actions_in, told_actions};
-ghost use Rattle.gdb_packet.specs.Commands.{IsQuestion, IsToldBy, letter_command, letter_question, span_in, with_number};
+ghost use Rattle.gdb_packet.specs.Commands.{IsQuestion, IsToldBy, letter_command, letter_question, span_in};
+ghost use Rattle.gdb_packet.specs.Commands.{with_number};
 ghost use Rattle.gdb_packet.specs.Commands.{with_span, without_address, written_question};
 ghost use Rattle.gdb_packet.specs.Numbers.{number_in};
 

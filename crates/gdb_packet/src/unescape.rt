@@ -7,8 +7,8 @@ ghost use Rattle.gdb_packet.specs.Packet.{behind, unescaped, unescaped_from};
 use crate::framing::is_bound;
 use crate::heard::Bytes;
 
-// Takes the next byte of a text, which stands behind a `}` or not, and tells whether the byte after it does. Nothing for
-// a bound.
+// Takes the next byte of a text, which stands behind a `}` or not, and tells whether the byte after it does. Nothing
+// for a bound.
 #[tactic(auto, unfolding(crate::specs::Packet::unescaped_from))]
 fn take_byte(bytes: &mut Bytes, escapes: bool, byte: u8) -> Option<bool>
     requires { array_vec_len bytes.old < 16384 }

@@ -32,8 +32,8 @@ fn push_seen(row: &mut Bytes, machine: &Machine, core: u8, at: u32, count: u32)
     }
 }
 
-/// Adds bytes of memory from an address on, as a core sees them, or `E14` where not all of them are memory's or they are
-/// more than 8192: `m`.
+/// Adds bytes of memory from an address on, as a core sees them, or `E14` where not all of them are memory's or they
+/// are more than 8192: `m`.
 pub fn push_memory(row: &mut Bytes, machine: &Machine, core: u8, at: u32, count: u32)
     requires exists { core < length machine.now.views }
     requires empty { array_vec_len row.old ≡ 0 }

@@ -6,7 +6,8 @@
 
 ghost use Rattle.std.specs.Prelude.{◌≡◌, ℕ, ◌+◌, ◌≤◌, ◌++◌};
 ghost use Rattle.arrayvec.specs.ArrayVec.{array_vec_len};
-ghost use Rattle.gdb_target.specs.Registers.{depth_of, eflags, register_of, register_text, registers_text, state_number};
+ghost use Rattle.gdb_target.specs.Registers.{depth_of, eflags, register_of, register_text, registers_text};
+ghost use Rattle.gdb_target.specs.Registers.{state_number};
 ghost use Rattle.gdb_target.specs.Registers.{tm_value};
 
 use crate::shown::CoreShown;

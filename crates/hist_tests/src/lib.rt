@@ -1,7 +1,7 @@
 //! Tests of boards and their beginnings, of the texts of histories, and of want of memory, by public calls alone.
 //!
-//! They are what neither a clause nor a row of `doc_tests` says: what stands after a refusal, texts with numbers that no command
-//! has, and public calls that none makes. They stand here, and not in `tm_hist`, so that it is proved once.
+//! They are what neither a clause nor a row of `doc_tests` says: what stands after a refusal, texts with numbers that
+//! no command has, and public calls that none makes. They stand here, and not in `tm_hist`, so that it is proved once.
 //! Nothing is promised here.
 #![tactic(auto)]
 

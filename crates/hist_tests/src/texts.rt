@@ -1,5 +1,5 @@
-//! Texts with numbers that no command has, and serial runs of histories that were written by hand. All other lines, schedules and
-//! dumps the worked rows of `doc_tests` show.
+//! Texts with numbers that no command has, and serial runs of histories that were written by hand. All other lines,
+//! schedules and dumps the worked rows of `doc_tests` show.
 
 use ia_image::{LoadFault, Program, load};
 use std::alloc::Global;

@@ -1,5 +1,6 @@
 -- Quotients of signed numbers.
-use Rattle.std.proofs.Common.{◌≡◌, ◌≢◌, ℕ, zero, suc, ◌/◌, ◌^◌, ◌<◌, ◌≤◌, arith, ℤ, pos, negsuc, neg_ℤ, false, refl, unsigned_abs, int_div}
+use Rattle.std.proofs.Common.{◌≡◌, ◌≢◌, ℕ, zero, suc, ◌/◌, ◌^◌, ◌<◌, ◌≤◌, arith, ℤ, pos, negsuc, neg_ℤ, false, refl}
+use Rattle.std.proofs.Common.{unsigned_abs, int_div}
 use Rattle.std.specs.Int.{cast_signed, cast_unsigned, w64}
 use Rattle.std.specs.Int.RustNames.{FitsSigned}
 use Rattle.std.proofs.Math.Nat.{div-le_self}
@@ -20,7 +21,8 @@ quotient_within (negsuc a) (pos b) h = omega (arith, abs_neg (suc a / b), div-le
 quotient_within (negsuc a) (negsuc b) h = omega (arith, div-le_self (suc a) (suc b))
 
 -- what is left of it in 64 bits lies outside a doubleword where it does
-pub wrapped_overflows : (q : ℤ) → unsigned_abs q ≤ 2 ^ 63 → overflows D (cast_signed w64 (cast_unsigned w64 q)) ≡ overflows D q
+pub wrapped_overflows : (q : ℤ) → unsigned_abs q ≤ 2 ^ 63
+    → overflows D (cast_signed w64 (cast_unsigned w64 q)) ≡ overflows D q
 unfolding overflows
 wrapped_overflows (pos n) h = grind (arith, nat_tests)
 wrapped_overflows (negsuc n) h = grind (arith, nat_tests)

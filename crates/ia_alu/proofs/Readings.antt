@@ -1,11 +1,13 @@
 -- The flags of a sum, one by one.
-use Rattle.std.proofs.Common.{◌≡◌, ℕ, ◌+◌, ◌*◌, ◌%◌, ◌^◌, ◌≤◌, arith, Bool, ℤ, pos, ◌+ℤ◌, ◌*ℤ◌, ◌==◌, nat_le, nat_lt, ◌-ℤ◌, ◌<◌, ◌↔◌, IsTrue, ◌∙◌}
+use Rattle.std.proofs.Common.{◌≡◌, ℕ, ◌+◌, ◌*◌, ◌%◌, ◌^◌, ◌≤◌, arith, Bool, ℤ, pos, ◌+ℤ◌, ◌*ℤ◌, ◌==◌, nat_le, nat_lt}
+use Rattle.std.proofs.Common.{◌-ℤ◌, ◌<◌, ◌↔◌, IsTrue, ◌∙◌}
 use Rattle.std.proofs.lemmas.Int.{ints}
 use Rattle.std.proofs.lemmas.Bool.Decides.{nat_tests}
 use Rattle.ia_word.specs.declared.width.Width.{Width}
 use Rattle.ia_word.specs.Width.{bits_of}
 use Rattle.ia_regs.specs.declared.flags.Flags.{Flags}
-use Rattle.ia_regs.specs.Flags.{has_carry, has_parity, has_adjust, has_zero, has_sign, has_overflow, with_carry, with_overflow}
+use Rattle.ia_regs.specs.Flags.{has_carry, has_parity, has_adjust, has_zero, has_sign, has_overflow, with_carry}
+use Rattle.ia_regs.specs.Flags.{with_overflow}
 use Rattle.ia_regs.proofs.Laws.{carry_of, parity_of, adjust_of, zero_of, sign_of, overflow_of}
 use Rattle.ia_alu.specs.Numbers.{signed_value, overflows, IsOutside}
 use Rattle.ia_alu.specs.Products.{product_flags, signed_product_flags}
@@ -30,7 +32,8 @@ pub sum_adjust : (w : Width) (a b c : ℕ) → has_adjust (sum_flags w a b c) �
 unfolding sum_flags
 sum_adjust w a b c = adjust_of _ _ _ _ _ _
 
-pub sum_overflow : (w : Width) (a b c : ℕ) → has_overflow (sum_flags w a b c) ≡ overflows w (signed_value w a +ℤ signed_value w b +ℤ pos c)
+pub sum_overflow : (w : Width) (a b c : ℕ)
+    → has_overflow (sum_flags w a b c) ≡ overflows w (signed_value w a +ℤ signed_value w b +ℤ pos c)
 unfolding sum_flags
 sum_overflow w a b c = overflow_of _ _ _ _ _ _
 
@@ -45,7 +48,8 @@ pub difference_adjust : (w : Width) (a b c : ℕ) → has_adjust (difference_fla
 unfolding difference_flags
 difference_adjust w a b c = adjust_of _ _ _ _ _ _
 
-pub difference_overflow : (w : Width) (a b c : ℕ) → has_overflow (difference_flags w a b c) ≡ overflows w (signed_value w a -ℤ signed_value w b -ℤ pos c)
+pub difference_overflow : (w : Width) (a b c : ℕ)
+    → has_overflow (difference_flags w a b c) ≡ overflows w (signed_value w a -ℤ signed_value w b -ℤ pos c)
 unfolding difference_flags
 difference_overflow w a b c = overflow_of _ _ _ _ _ _
 
@@ -73,11 +77,13 @@ pub product_overflow : (a b : ℕ) (f : Flags) → has_overflow (product_flags a
 unfolding product_flags
 product_overflow a b f = overflow_written _ _ _
 
-pub signed_product_carry : (a b : ℕ) (f : Flags) → has_carry (signed_product_flags a b f) ≡ overflows D (signed_value D a *ℤ signed_value D b)
+pub signed_product_carry : (a b : ℕ) (f : Flags)
+    → has_carry (signed_product_flags a b f) ≡ overflows D (signed_value D a *ℤ signed_value D b)
 unfolding signed_product_flags
 signed_product_carry a b f = carry_written _ _ _
 
-pub signed_product_overflow : (a b : ℕ) (f : Flags) → has_overflow (signed_product_flags a b f) ≡ overflows D (signed_value D a *ℤ signed_value D b)
+pub signed_product_overflow : (a b : ℕ) (f : Flags)
+    → has_overflow (signed_product_flags a b f) ≡ overflows D (signed_value D a *ℤ signed_value D b)
 unfolding signed_product_flags
 signed_product_overflow a b f = overflow_written _ _ _
 

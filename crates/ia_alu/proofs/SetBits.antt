@@ -1,10 +1,13 @@
 -- A number with one bit in its place.
-use Rattle.std.proofs.Common.{◌≡◌, ◌⊎◌, ℕ, zero, suc, ◌+◌, ◌-◌, ◌*◌, ◌/◌, ◌%◌, ◌^◌, ◌<◌, ◌≤◌, inl, inr, refl, sym, ap, ◌∙◌, arith, add-mul, div-add-mod'}
+use Rattle.std.proofs.Common.{◌≡◌, ◌⊎◌, ℕ, zero, suc, ◌+◌, ◌-◌, ◌*◌, ◌/◌, ◌%◌, ◌^◌, ◌<◌, ◌≤◌, inl, inr, refl, sym, ap}
+use Rattle.std.proofs.Common.{◌∙◌, arith, add-mul, div-add-mod'}
 use Rattle.std.specs.Prelude.{bit_and, bit_or, bit_xor}
 use Rattle.std.specs.Int.{bit_at, w32}
 use Rattle.std.proofs.lemmas.Nat.{div-mul-add, mod-mul-add, mod_below, pow_below}
 use Rattle.std.proofs.Math.Nat.{mod-eq_of_lt}
-use Rattle.std.proofs.lemmas.Nat.Bits.{bit_at-lt, bit_at_lowest, bit_at-suc, bit_at_and, bit_at_or, bit_at_xor, bit_at-pow_same, bit_at-pow_other, bit_at_not, bit_at_cat_low, bit_at_cat_high, bit_at_above, same_from_bits}
+use Rattle.std.proofs.lemmas.Nat.Bits.{bit_at-lt, bit_at_lowest, bit_at-suc, bit_at_and, bit_at_or, bit_at_xor}
+use Rattle.std.proofs.lemmas.Nat.Bits.{bit_at-pow_same, bit_at-pow_other, bit_at_not, bit_at_cat_low, bit_at_cat_high}
+use Rattle.std.proofs.lemmas.Nat.Bits.{bit_at_above, same_from_bits}
 use Rattle.ia_word.specs.declared.operation.BitOp.{BitOp}
 use Rattle.ia_word.specs.declared.operation.BitOp.TheVariants.{Bt, Bts, Btr, Btc}
 use Rattle.ia_alu.specs.Bits.{bit_after, bit_value, with_bit}
@@ -82,7 +85,8 @@ other_bit a n b i h apart = elim (one_place i n) [
     q = a / 2 ^ n / 2
 
 -- a number that has this bit, and the others of another
-is_with : (a n b x : ℕ) → b < 2 → bit_at x n ≡ b → ((i : ℕ) → (i ≡ n → ⊥) → bit_at x i ≡ bit_at a i) → x ≡ with_bit a n b
+is_with : (a n b x : ℕ) → b < 2 → bit_at x n ≡ b → ((i : ℕ) → (i ≡ n → ⊥) → bit_at x i ≡ bit_at a i)
+    → x ≡ with_bit a n b
 is_with a n b x h here others = same_from_bits x (with_bit a n b) (λ i. elim (one_place i n) [
   | inl less ↦ others i (λ e. omega (arith, e)) ∙ sym (other_bit a n b i h (λ e. omega (arith, e)))
   | inr rest ↦ elim rest [
@@ -107,9 +111,16 @@ turned a n = is_with a n (1 - bit_at a n) (bit_xor a (2 ^ n)) (omega arith)
     (omega (arith, bit_at_xor a (2 ^ n) n, bit_at-pow_same n, bit_at-lt a n))
     (λ i apart. omega (arith, bit_at_xor a (2 ^ n) i, bit_at-pow_other n i apart, bit_at-lt a i))
 
-cleared_at : (a n i : ℕ) → a < 2 ^ 32 → 2 ^ n < 2 ^ 32 → bit_at (bit_and a (2 ^ 32 - 1 - 2 ^ n)) i ≡ bit_at a i - bit_at (2 ^ n) i
+cleared_at : (a n i : ℕ) → a < 2 ^ 32 → 2 ^ n < 2 ^ 32
+    → bit_at (bit_and a (2 ^ 32 - 1 - 2 ^ n)) i ≡ bit_at a i - bit_at (2 ^ n) i
 cleared_at a n i fits small = elim (one_place i 32) [
-  | inl less ↦ omega (arith, bit_at_and a (2 ^ 32 - 1 - 2 ^ n) i, bit_at_not w32 (2 ^ n) i small less, bit_at-lt a i, bit_at-lt (2 ^ n) i)
+  | inl less ↦ omega (
+    arith,
+    bit_at_and a (2 ^ 32 - 1 - 2 ^ n) i,
+    bit_at_not w32 (2 ^ n) i small less,
+    bit_at-lt a i,
+    bit_at-lt (2 ^ n) i,
+  )
   | inr rest ↦
       let from : 32 ≤ i = elim rest [ inl same ↦ omega (arith, same) | inr more ↦ omega arith ] in
       omega (arith, bit_at_and a (2 ^ 32 - 1 - 2 ^ n) i, bit_at_above a 32 i fits from)
@@ -133,4 +144,5 @@ chosen_is op a n = same_bit a n (bit_after op (bit_at a n)) (after_fits op (bit_
 
 pub others_are : (op : BitOp) (a n k : ℕ) → (k ≡ n → ⊥) → bit_at (bit_value op a n) k ≡ bit_at a k
 unfolding bit_value
-others_are op a n k apart = other_bit a n (bit_after op (bit_at a n)) k (after_fits op (bit_at a n) (bit_at-lt a n)) apart
+others_are op a n k apart =
+    other_bit a n (bit_after op (bit_at a n)) k (after_fits op (bit_at a n) (bit_at-lt a n)) apart

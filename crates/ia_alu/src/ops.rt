@@ -4,7 +4,8 @@ ghost use Rattle.std.specs.Prelude.{◌≡◌, ◌≢◌, ◌<◌, ◌≤◌, �
 ghost use Rattle.ia_word.specs.Width.{bits_of};
 ghost use Rattle.ia_regs.specs.Flags.{has_carry, has_parity, has_adjust, has_zero, has_sign, has_overflow, with_carry};
 ghost use Rattle.ia_alu.specs.Numbers.{half_of};
-ghost use Rattle.ia_alu.specs.Ops.{alu_value, alu_flags, inc_dec_value, inc_dec_flags, logic_flags, carry_in, AluCarries, AluAdjusts, AluOverflows, IncDecAdjusts, IncDecOverflows};
+ghost use Rattle.ia_alu.specs.Ops.{alu_value, alu_flags, inc_dec_value, inc_dec_flags, logic_flags, carry_in};
+ghost use Rattle.ia_alu.specs.Ops.{AluCarries, AluAdjusts, AluOverflows, IncDecAdjusts, IncDecOverflows};
 ghost use Rattle.ia_alu.specs.Sums.{difference_of, difference_flags};
 ghost use Rattle.ia_word.specs.declared.width.Width.TheVariants.{D};
 

@@ -1,9 +1,12 @@
 //! Products and quotients of doublewords.
 
-ghost use Rattle.std.specs.Prelude.{◌≡◌, ◌<◌, ◌^◌, ◌%◌, ◌/◌, ◌*◌, ◌+◌, ◌*ℤ◌, Ok, Err, true, ◌↔◌, IsErr, IsTrue, IfOk, ◌≤◌, ◌≢◌, pos, int_div, int_rem};
+ghost use Rattle.std.specs.Prelude.{◌≡◌, ◌<◌, ◌^◌, ◌%◌, ◌/◌, ◌*◌, ◌+◌, ◌*ℤ◌, Ok, Err, true, ◌↔◌, IsErr, IsTrue, IfOk};
+ghost use Rattle.std.specs.Prelude.{◌≤◌, ◌≢◌, pos, int_div, int_rem};
 ghost use Rattle.ia_alu.specs.Numbers.{signed_value, modulo, overflows, IsOutside};
-ghost use Rattle.ia_alu.specs.Products.{product_flags, signed_product_flags, double_of, signed_double, CannotDivide, CannotDivideSigned, signed_quotient, signed_remainder, div_of, idiv_of};
-ghost use Rattle.ia_regs.specs.Flags.{has_carry, has_parity, has_adjust, has_zero, has_sign, has_overflow, with_carry, with_overflow};
+ghost use Rattle.ia_alu.specs.Products.{product_flags, signed_product_flags, double_of, signed_double, CannotDivide};
+ghost use Rattle.ia_alu.specs.Products.{CannotDivideSigned, signed_quotient, signed_remainder, div_of, idiv_of};
+ghost use Rattle.ia_regs.specs.Flags.{has_carry, has_parity, has_adjust, has_zero, has_sign, has_overflow, with_carry};
+ghost use Rattle.ia_regs.specs.Flags.{with_overflow};
 ghost use Rattle.ia_word.specs.declared.width.Width.TheVariants.{D};
 
 use crate::divide::Divide;

@@ -1,7 +1,10 @@
 //! Shifts and rotations of a doubleword.
 
-ghost use Rattle.std.specs.Prelude.{◌≡◌, ◌≢◌, ◌↔◌, ◌<◌, ◌≤◌, ◌^◌, ◌%◌, ◌/◌, ◌*◌, ◌+◌, ◌==◌, IsTrue, count_ones, nat_le, true, if◌then◌else◌};
-ghost use Rattle.ia_alu.specs.Shifts.{shift_value, shift_flags, moved_value, moved_flags, top_bit, rotated_at, plain_shift_flags, rotation_flags_of, ShiftCarries, ShiftParity, ShiftZero, ShiftSign, shift_overflows};
+ghost use Rattle.std.specs.Prelude.{◌≡◌, ◌≢◌, ◌↔◌, ◌<◌, ◌≤◌, ◌^◌, ◌%◌, ◌/◌, ◌*◌, ◌+◌, ◌==◌, IsTrue, count_ones, nat_le};
+ghost use Rattle.std.specs.Prelude.{true, if◌then◌else◌};
+ghost use Rattle.ia_alu.specs.Shifts.{shift_value, shift_flags, moved_value, moved_flags, top_bit, rotated_at};
+ghost use Rattle.ia_alu.specs.Shifts.{plain_shift_flags, rotation_flags_of, ShiftCarries, ShiftParity, ShiftZero};
+ghost use Rattle.ia_alu.specs.Shifts.{ShiftSign, shift_overflows};
 ghost use Rattle.ia_regs.specs.Flags.{differ, has_carry, has_parity, has_adjust, has_zero, has_sign, has_overflow};
 ghost use Rattle.ia_word.specs.declared.width.Width.TheVariants.{D};
 

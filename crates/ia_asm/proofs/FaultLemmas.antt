@@ -41,17 +41,21 @@ first_some Range (Some ShortJumpTooFar) = (Range, refl)
 first_some ShortJumpTooFar None = (ShortJumpTooFar, refl)
 first_some ShortJumpTooFar (Some f) = (f, refl)
 
-pub step : (env : Env) (base : ℕ) (found : Option (PlaceFault × ℕ)) (p : EntryPlace) (ps : List EntryPlace) (g : Option PlaceFault) → place_fault env base p ≡ g →
+pub step : (env : Env) (base : ℕ) (found : Option (PlaceFault × ℕ)) (p : EntryPlace) (ps : List EntryPlace)
+    (g : Option PlaceFault) → place_fault env base p ≡ g →
     fault_from env base (with_next found g p.entry.line) ps ≡ fault_from env base found (p ∷ ps)
-step env base None p ps None e = sym (ap (λ g. by_first g p.entry.line (fault_on p.entry.line env base ps) (first_fault env base ps)) e)
-step env base None p ps (Some f) e = sym (ap (λ g. by_first g p.entry.line (fault_on p.entry.line env base ps) (first_fault env base ps)) e)
+step env base None p ps None e =
+    sym (ap (λ g. by_first g p.entry.line (fault_on p.entry.line env base ps) (first_fault env base ps)) e)
+step env base None p ps (Some f) e =
+    sym (ap (λ g. by_first g p.entry.line (fault_on p.entry.line env base ps) (first_fault env base ps)) e)
 step env base (Some (f, l)) p ps g e = by (p.entry.line == l) refl
   where
     more : Option PlaceFault
     more = fault_on l env base ps
 
     goes : (h : PlaceFault) → first_of (Some f) g ≡ Some h →
-        fault_from env base (option_map (λ x. (x, l)) (first_of (Some f) g)) ps ≡ option_map (λ x. (x, l)) (first_of (Some f) (first_of (place_fault env base p) more))
+        fault_from env base (option_map (λ x. (x, l)) (first_of (Some f) g)) ps
+        ≡ option_map (λ x. (x, l)) (first_of (Some f) (first_of (place_fault env base p) more))
     goes h is = ap (λ x. fault_from env base (option_map (λ y. (y, l)) x) ps) is
         ∙ ap (λ x. option_map (λ y. (y, l)) (first_of x more)) (sym is)
         ∙ ap (option_map (λ x. (x, l))) (in_turn (Some f) g more)
@@ -59,7 +63,8 @@ step env base (Some (f, l)) p ps g e = by (p.entry.line == l) refl
 
     by : (t : Bool) → (p.entry.line == l) ≡ t →
         fault_from env base (cond (p.entry.line == l) (option_map (λ x. (x, l)) (first_of (Some f) g)) (Some (f, l))) ps
-        ≡ option_map (λ x. (x, l)) (first_of (Some f) (first_of (cond (p.entry.line == l) (place_fault env base p) None) more))
+        ≡ option_map (λ x. (x, l))
+        (first_of (Some f) (first_of (cond (p.entry.line == l) (place_fault env base p) None) more))
     by true same = rw same (goes (first_some f g).0 (first_some f g).1)
     by false other = rw other refl
 

@@ -17,9 +17,11 @@ use Rattle.ia_asm.proofs.Readings.{read_or}
 use Rattle.ia_asm.proofs.SameGiven.{SameGiven, same_given}
 
 of_asked : (text : List ℕ) (es fs : List Entry) → AsksFor text es → AsksFor text fs → SameGiven es fs
-of_asked text es fs x y = same_given x.naming y.naming x.one_to_one y.one_to_one es fs (ap (read_or (map (entry_content (by_number x.naming)) es)) (sym x.named ∙ y.named))
+of_asked text es fs x y = same_given x.naming y.naming x.one_to_one y.one_to_one es fs
+    (ap (read_or (map (entry_content (by_number x.naming)) es)) (sym x.named ∙ y.named))
 
-same_image : (text : List ℕ) (es fs : List Entry) (image : List ℕ) (base code_len : ℕ) (p : ProgramImage) → AsksFor text es → AsksFor text fs → IsCodeOf es image base code_len → IsImage fs p → IsOf p image base code_len
+same_image : (text : List ℕ) (es fs : List Entry) (image : List ℕ) (base code_len : ℕ) (p : ProgramImage)
+    → AsksFor text es → AsksFor text fs → IsCodeOf es image base code_len → IsImage fs p → IsOf p image base code_len
 same_image text es fs image base code_len b x y p q =
     let s = of_asked text es fs x y in (
       p.base ∙ s.base ∙ sym q.0.base,

@@ -22,7 +22,8 @@ of_entries source names P Q go (es, reads, fits, p) m is fs r =
     go m is.one_to_one es fs (ap (read_or (map (entry_content (by_number m)) es)) (sym (reads (by_number m) is) ∙ r)) p
 
 -- names that grow keep what holds
-pub of_more : (source : List ℕ) (a b : Names) (P : List Entry → Type 0) → Grows a b → OfEntries source a P → OfEntries source b P
+pub of_more : (source : List ℕ) (a b : Names) (P : List Entry → Type 0) → Grows a b → OfEntries source a P
+    → OfEntries source b P
 of_more source a b P grows of m is es r = of m (naming_less m a b grows is) es r
 
 pub asks_for : (source : List ℕ) (names : Names) (es : List Entry) → ReadsAs source names es → AsksFor source es
@@ -34,5 +35,7 @@ asks_for source names es reads = record {
 }
 
 -- it holds of entries that were read
-pub of_read : (source : List ℕ) (names : Names) (P : List Entry → Type 0) (es : List Entry) → ReadsAs source names es → OfEntries source names P → P es
-of_read source names P es reads of = of (naming_of names) (is_naming names) es (reads (by_number (naming_of names)) (is_naming names))
+pub of_read : (source : List ℕ) (names : Names) (P : List Entry → Type 0) (es : List Entry) → ReadsAs source names es
+    → OfEntries source names P → P es
+of_read source names P es reads of =
+    of (naming_of names) (is_naming names) es (reads (by_number (naming_of names)) (is_naming names))

@@ -18,7 +18,8 @@ reading_refused text (source.Line line why.SymbolTwice) e = inl (line, why.Symbo
 reading_refused text (source.Line line why.BadOperand) e = inl (line, why.BadOperand, e, refl)
 reading_refused text source.NoMemory e = tt
 
-pub placing_refused : (text : List ℕ) (es : List Entry) → AsksFor text es → (f : AsmFault) → TellsFault es f → RefusedAs text f
+pub placing_refused : (text : List ℕ) (es : List Entry) → AsksFor text es → (f : AsmFault) → TellsFault es f
+    → RefusedAs text f
 placing_refused text es a asm.NoMemory t = tt
 placing_refused text es a (asm.BadToken l) t = inr (es, a, t)
 placing_refused text es a (asm.BadOperand l) t = inr (es, a, t)

@@ -6,7 +6,8 @@ use Rattle.ia_names.specs.Namings.{Naming, IsOneToOne}
 use Rattle.ia_layout.specs.Placement.{all_places, base_of, first_fault, start, tail_base, text_end, values}
 use Rattle.ia_asm.specs.Assemblies.{code_of, fault_of, tail_of}
 use Rattle.ia_asm.proofs.SameSums.{SameEnv}
-use Rattle.ia_asm.proofs.SamePlaces.{SameState, SamePlaces, SameContents, same_after, same_base, same_bytes, same_first, same_places, same_symbols}
+use Rattle.ia_asm.proofs.SamePlaces.{SameState, SamePlaces, SameContents, same_after, same_base, same_bytes, same_first}
+use Rattle.ia_asm.proofs.SamePlaces.{same_places, same_symbols}
 
 -- what two readings of one source give
 pub record SameGiven (es fs : List Entry) : Type 0 where
@@ -16,14 +17,18 @@ pub record SameGiven (es fs : List Entry) : Type 0 where
   pub tail : tail_of es ≡ tail_of fs
   pub fault : fault_of es ≡ fault_of fs
 
-pub same_given : (m n : Naming) → IsOneToOne m → IsOneToOne n → (es fs : List Entry) → SameContents m n es fs → SameGiven es fs
+pub same_given : (m n : Naming) → IsOneToOne m → IsOneToOne n → (es fs : List Entry) → SameContents m n es fs
+    → SameGiven es fs
 same_given m n one two es fs contents = record {
   base = base;
   end = end;
-  code = same_bytes m n InText (values (all_places es)) (values (all_places fs)) env (all_places es) (all_places fs) all;
-  tail = same_bytes m n InData (values (all_places es)) (values (all_places fs)) env (all_places es) (all_places fs) all;
+  code =
+      same_bytes m n InText (values (all_places es)) (values (all_places fs)) env (all_places es) (all_places fs) all;
+  tail =
+      same_bytes m n InData (values (all_places es)) (values (all_places fs)) env (all_places es) (all_places fs) all;
   fault = ap (λ b. first_fault (values (all_places es)) b (all_places es)) base
-      ∙ same_first m n (values (all_places es)) (values (all_places fs)) env (base_of fs) (all_places es) (all_places fs) all;
+      ∙ same_first m n (values (all_places es)) (values (all_places fs)) env (base_of fs) (all_places es)
+      (all_places fs) all;
 }
   where
     base : base_of es ≡ base_of fs
@@ -36,7 +41,8 @@ same_given m n one two es fs contents = record {
     end = (same_after m n one two (start (base_of es) 0) (start (base_of fs) 0) (begun 0 0 refl) es fs contents).text
 
     all : SamePlaces m n (all_places es) (all_places fs)
-    all = same_places m n one two (start (base_of es) (tail_base (text_end es))) (start (base_of fs) (tail_base (text_end fs)))
+    all = same_places m n one two (start (base_of es) (tail_base (text_end es)))
+        (start (base_of fs) (tail_base (text_end fs)))
         (begun (tail_base (text_end es)) (tail_base (text_end fs)) (ap tail_base end)) es fs contents
 
     env : SameEnv m n (values (all_places es)) (values (all_places fs))

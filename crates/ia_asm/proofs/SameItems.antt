@@ -1,5 +1,6 @@
 -- Items of symbols that have other numbers and the same names.
-use Rattle.std.proofs.Common.{◌≡◌, ℕ, ◌+◌, ◌-◌, ◌^◌, true, false, cond, List, [], ◌∷◌, Option, Some, None, refl, sym, ◌∙◌, ap, length, arith}
+use Rattle.std.proofs.Common.{◌≡◌, ℕ, ◌+◌, ◌-◌, ◌^◌, true, false, cond, List, [], ◌∷◌, Option, Some, None, refl, sym}
+use Rattle.std.proofs.Common.{◌∙◌, ap, length, arith}
 use Rattle.std.proofs.lemmas.Bool.{cases_Bool}
 use Rattle.std.proofs.Common.{inl, inr, replicate}
 use Rattle.std.specs.Prelude.{ℤ, pos}
@@ -16,13 +17,17 @@ use Rattle.ia_item.specs.Names.{same_symbol}
 use Rattle.ia_insn.specs.declared.op.Insn.{Insn}
 use Rattle.ia_lex.specs.Terms.{TermContent}
 use Rattle.ia_names.specs.Namings.{Naming, IsOneToOne}
-use Rattle.ia_source.specs.Contents.{ItemContent, Label, Equ, Code, Byte, Text, Numbers, Long, Reserve, Align, Org, Reading, expression_content, item_content}
+use Rattle.ia_source.specs.Contents.{ItemContent, Label, Equ, Code, Byte, Text, Numbers, Long, Reserve, Align, Org}
+use Rattle.ia_source.specs.Contents.{Reading, expression_content, item_content}
 use Rattle.ia_resolve.specs.declared.place_fault.PlaceFault.{PlaceFault}
 use Rattle.ia_resolve.specs.PlaceFaults.{first_of}
 use Rattle.ia_resolve.specs.Symbols.{known}
 use Rattle.ia_resolve.specs.Items.{field_fault, template_fault}
-use Rattle.ia_layout.specs.Placement.{EntryPlace, nowhere, critical_value, critical_fault, gap, size_of, above_next, item_definition, bytes_at, pad, end_fault, org_fault, org_value, item_fault, base_or}
-use Rattle.ia_asm.proofs.SameSums.{SameEnv, SameCode, same_fault, same_value, same_field, same_field_fault, same_code, same_code_fault}
+use Rattle.ia_layout.specs.Placement.{EntryPlace, nowhere, critical_value, critical_fault, gap, size_of, above_next}
+use Rattle.ia_layout.specs.Placement.{item_definition, bytes_at, pad, end_fault, org_fault, org_value, item_fault}
+use Rattle.ia_layout.specs.Placement.{base_or}
+use Rattle.ia_asm.proofs.SameSums.{SameEnv, SameCode, same_fault, same_value, same_field, same_field_fault, same_code}
+use Rattle.ia_asm.proofs.SameSums.{same_code_fault}
 
 -- symbols by their numbers' names
 abbrev pub by_number : Naming → Reading
@@ -39,11 +44,13 @@ number_same s t e = grind (arith, e)
 other_number : (s t : SymbolOf) → same_symbol s t ≡ false → s.number ≡ t.number → ⊥
 other_number s t f e = let yes = same_number s t e in absurd cc
 
-known_of : (s d : SymbolOf) (v : ℤ) (es : List (SymbolOf × ℤ)) → known (insert_entry same_symbol es d v) s ≡ cond (same_symbol s d) (Some v) (known es s)
+known_of : (s d : SymbolOf) (v : ℤ) (es : List (SymbolOf × ℤ))
+    → known (insert_entry same_symbol es d v) s ≡ cond (same_symbol s d) (Some v) (known es s)
 known_of s d v [] = refl
 known_of s d v (e ∷ es) = elim (cases_Bool (same_symbol d e.0)) [
   | inl there ↦ elim (cases_Bool (same_symbol s d)) [
-    | inl same ↦ let too = same_number s e.0 (number_same s d same ∙ number_same d e.0 there) in rw (there, same, too) refl
+    | inl same ↦
+        let too = same_number s e.0 (number_same s d same ∙ number_same d e.0 there) in rw (there, same, too) refl
     | inr other ↦ elim (cases_Bool (same_symbol s e.0)) [
       | inl wrong ↦ absurd (other_number s d other (number_same s e.0 wrong ∙ sym (number_same d e.0 there)))
       | inr apart ↦ rw (there, other, apart) refl
@@ -58,7 +65,8 @@ known_of s d v (e ∷ es) = elim (cases_Bool (same_symbol d e.0)) [
   ]
 ]
 
-both_same : (m n : Naming) → IsOneToOne m → IsOneToOne n → (s d t c : SymbolOf) → m s.number ≡ n t.number → m d.number ≡ n c.number → same_symbol s d ≡ same_symbol t c
+both_same : (m n : Naming) → IsOneToOne m → IsOneToOne n → (s d t c : SymbolOf) → m s.number ≡ n t.number
+    → m d.number ≡ n c.number → same_symbol s d ≡ same_symbol t c
 both_same m n one two s d t c st dc = elim (cases_Bool (same_symbol s d)) [
   | inl same ↦ same ∙ sym (same_number t c (two t.number c.number (sym st ∙ ap m (number_same s d same) ∙ dc)))
   | inr other ↦ elim (cases_Bool (same_symbol t c)) [
@@ -67,7 +75,8 @@ both_same m n one two s d t c st dc = elim (cases_Bool (same_symbol s d)) [
   ]
 ]
 
-pub same_inserted : (m n : Naming) → IsOneToOne m → IsOneToOne n → (a b : List (SymbolOf × ℤ)) (d c : SymbolOf) (v : ℤ) → SameEnv m n (known a) (known b) → m d.number ≡ n c.number
+pub same_inserted : (m n : Naming) → IsOneToOne m → IsOneToOne n
+    → (a b : List (SymbolOf × ℤ)) (d c : SymbolOf) (v : ℤ) → SameEnv m n (known a) (known b) → m d.number ≡ n c.number
     → SameEnv m n (known (insert_entry same_symbol a d v)) (known (insert_entry same_symbol b c v))
 same_inserted m n one two a b d c v h dc s t st =
     known_of s d v a
@@ -83,10 +92,13 @@ pub record SameItem (m n : Naming) (x y : Item) : Type 0 where
   pub value : (a b : List (SymbolOf × ℤ)) → SameEnv m n (known a) (known b) → critical_value a x ≡ critical_value b y
   pub critical : (a b : List (SymbolOf × ℤ)) → SameEnv m n (known a) (known b) → critical_fault a x ≡ critical_fault b y
   pub bytes : (e f : Env) → SameEnv m n e f → (at : ℕ) (v : ℤ) (s : Section) → bytes_at e at v s x ≡ bytes_at f at v s y
-  pub fault : (e f : Env) → SameEnv m n e f → (base : ℕ) (p q : EntryPlace) → p.at ≡ q.at → p.size ≡ q.size → p.fault ≡ q.fault → item_fault e base p x ≡ item_fault f base q y
-  pub above : (a b : List (SymbolOf × ℤ)) (v : ℤ) → SameEnv m n (known a) (known b) → SameEnv m n (known (above_next a v x)) (known (above_next b v y))
+  pub fault : (e f : Env) → SameEnv m n e f → (base : ℕ) (p q : EntryPlace) → p.at ≡ q.at → p.size ≡ q.size
+      → p.fault ≡ q.fault → item_fault e base p x ≡ item_fault f base q y
+  pub above : (a b : List (SymbolOf × ℤ)) (v : ℤ) → SameEnv m n (known a) (known b)
+      → SameEnv m n (known (above_next a v x)) (known (above_next b v y))
   pub defined : (a b : List (SymbolOf × ℤ)) (at : ℕ) (v : ℤ) → SameEnv m n (known a) (known b)
-      → SameEnv m n (known (insert_all same_symbol a (item_definition at v x))) (known (insert_all same_symbol b (item_definition at v y)))
+      → SameEnv m n (known (insert_all same_symbol a (item_definition at v x)))
+      (known (insert_all same_symbol b (item_definition at v y)))
   pub base : (other : ℕ) → base_or x other ≡ base_or y other
 
 abbrev name_in : List ℕ → ItemContent → List ℕ
@@ -129,10 +141,12 @@ place_in d _ = d
 same_nowhere : (m n : Naming) → SameEnv m n nowhere nowhere
 same_nowhere m n s t e = refl
 
-same_end : (base : ℕ) (p q : EntryPlace) → p.at ≡ q.at → p.size ≡ q.size → end_fault base (p.at + p.size) ≡ end_fault base (q.at + q.size)
+same_end : (base : ℕ) (p q : EntryPlace) → p.at ≡ q.at → p.size ≡ q.size
+    → end_fault base (p.at + p.size) ≡ end_fault base (q.at + q.size)
 same_end base p q at size = ap (λ a. end_fault base (a + p.size)) at ∙ ap (λ z. end_fault base (q.at + z)) size
 
-pub same_item : (m n : Naming) → IsOneToOne m → IsOneToOne n → (x y : Item) → item_content (by_number m) x ≡ item_content (by_number n) y → SameItem m n x y
+pub same_item : (m n : Naming) → IsOneToOne m → IsOneToOne n
+    → (x y : Item) → item_content (by_number m) x ≡ item_content (by_number n) y → SameItem m n x y
 unfolding size_of critical_value critical_fault bytes_at item_fault above_next item_definition base_or
 same_item m n one two (item.Label d) (item.Label c) is =
     let k : m d.symbol.number ≡ n c.symbol.number = ap (name_in []) is in
@@ -160,7 +174,8 @@ same_item m n one two (item.Equ d s) (item.Equ c t) is =
       base = λ other. refl;
     }
 same_item m n one two (item.Code t) (item.Code u) is =
-    let c : SameCode m n t u = record { insn = ap (insn_in t.insn) is; number = ap (number_in None) is; place = ap (place_in None) is } in
+    let c : SameCode m n t u =
+    record { insn = ap (insn_in t.insn) is; number = ap (number_in None) is; place = ap (place_in None) is } in
     record {
       size = λ at v. ap length (same_code m n nowhere nowhere (same_nowhere m n) at t u c);
       value = λ a b h. refl;
@@ -168,7 +183,8 @@ same_item m n one two (item.Code t) (item.Code u) is =
       bytes = λ e f h at v s. same_code m n e f h at t u c;
       fault = λ e f h base p q at size told.
           ap (λ a. first_of (template_fault e a t) (end_fault base (p.at + p.size))) at
-          ∙ ap (λ (g : Option PlaceFault). first_of g (end_fault base (p.at + p.size))) (same_code_fault m n e f h q.at t u c)
+          ∙ ap (λ (g : Option PlaceFault). first_of g (end_fault base (p.at + p.size)))
+          (same_code_fault m n e f h q.at t u c)
           ∙ ap (first_of (template_fault f q.at u)) (same_end base p q at size);
       above = λ a b v h. h;
       defined = λ a b at v h. h;
@@ -183,7 +199,8 @@ same_item m n one two (item.Byte s) (item.Byte t) is =
       bytes = λ e f h at v w. ap (λ b. b ∷ []) (same_field m n e f h at field.Byte s t z);
       fault = λ e f h base p q at size told.
           ap (λ a. first_of (field_fault e a field.Byte s) (end_fault base (p.at + p.size))) at
-          ∙ ap (λ (g : Option PlaceFault). first_of g (end_fault base (p.at + p.size))) (same_field_fault m n e f h q.at field.Byte s t z)
+          ∙ ap (λ (g : Option PlaceFault). first_of g (end_fault base (p.at + p.size)))
+          (same_field_fault m n e f h q.at field.Byte s t z)
           ∙ ap (first_of (field_fault f q.at field.Byte t)) (same_end base p q at size);
       above = λ a b v h. h;
       defined = λ a b at v h. h;
@@ -222,7 +239,8 @@ same_item m n one two (item.Long s) (item.Long t) is =
       bytes = λ e f h at v w. ap long_bytes (same_field m n e f h at field.Long s t z);
       fault = λ e f h base p q at size told.
           ap (λ a. first_of (field_fault e a field.Long s) (end_fault base (p.at + p.size))) at
-          ∙ ap (λ (g : Option PlaceFault). first_of g (end_fault base (p.at + p.size))) (same_field_fault m n e f h q.at field.Long s t z)
+          ∙ ap (λ (g : Option PlaceFault). first_of g (end_fault base (p.at + p.size)))
+          (same_field_fault m n e f h q.at field.Long s t z)
           ∙ ap (first_of (field_fault f q.at field.Long t)) (same_end base p q at size);
       above = λ a b v h. h;
       defined = λ a b at v h. h;
@@ -235,7 +253,9 @@ same_item m n one two (item.Reserve s) (item.Reserve t) is =
       value = λ a b h. same_value m n (known a) (known b) h (pos 0) (pos (2 ^ 32 - 1)) s t z;
       critical = λ a b h. same_fault m n (known a) (known b) h (pos 0) (pos (2 ^ 32 - 1)) s t z;
       bytes = λ e f h at v s. refl;
-      fault = λ e f h base p q at size told. ap (λ (g : Option PlaceFault). first_of g (end_fault base (p.at + p.size))) told ∙ ap (first_of q.fault) (same_end base p q at size);
+      fault = λ e f h base p q at size told.
+          ap (λ (g : Option PlaceFault). first_of g (end_fault base (p.at + p.size))) told
+          ∙ ap (first_of q.fault) (same_end base p q at size);
       above = λ a b v h. h;
       defined = λ a b at v h. h;
       base = λ other. refl;

@@ -4,12 +4,12 @@
 //!
 //! Promised by `assemble`: the lines of the source ask for entries, and image, base, code length, symbols and listing
 //! are theirs; or the source is refused for the first line that is at fault, and the first thing that is wrong with it;
-//! or memory was refused, or the source would take more than it may. `assemble_image` promises the same without the listing,
-//! which it does not make, and `assemble_code` and `assemble_listing` the image and the listing alone. By
+//! or memory was refused, or the source would take more than it may. `assemble_image` promises the same without the
+//! listing, which it does not make, and `assemble_code` and `assemble_listing` the image and the listing alone. By
 //! `source_gives_one_image`, that a source has one image.
 //!
-//! The entries of the source are gone over, some of them at a time, for the base, for the end of the code, for the symbols,
-//! for faults, and then for all that is given.
+//! The entries of the source are gone over, some of them at a time, for the base, for the end of the code, for the
+//! symbols, for faults, and then for all that is given.
 //!
 //! It stands on `ia_source` for the entries, `ia_layout` for their places and bytes, and `ia_text` for the listing.
 #![tactic(auto)]

@@ -1,6 +1,7 @@
 //! The listing.
 
-ghost use Rattle.std.specs.Prelude.{◌≡◌, ◌+◌, ◌*◌, ◌<◌, ◌%◌, ◌^◌, ◌++◌, ◌∷◌, [], false, refl, IsTrue, List, length, IfOk, OnOk};
+ghost use Rattle.std.specs.Prelude.{◌≡◌, ◌+◌, ◌*◌, ◌<◌, ◌%◌, ◌^◌, ◌++◌, ◌∷◌, [], false, refl, IsTrue, List, length};
+ghost use Rattle.std.specs.Prelude.{IfOk, OnOk};
 ghost use Rattle.ia_text.specs.Listing.{listing_line};
 ghost use Rattle.ia_resolve.specs.Symbols.{known};
 ghost use Rattle.ia_layout.specs.Placement.{EntryPlace};

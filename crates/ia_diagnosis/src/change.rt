@@ -6,8 +6,8 @@ use ia_asm::AsmFault;
 use ia_source::{SourceFault, entries};
 use std::alloc::{AllocError, Global};
 
-/// Takes the line of a fault out of a copy of its source: blanks stand in place of it, except for its label. The name of an
-/// `equ` keeps a value.
+/// Takes the line of a fault out of a copy of its source: blanks stand in place of it, except for its label. The name
+/// of an `equ` keeps a value.
 pub fn take_out(copy: &mut Vec<u8>, source: &[u8], fault: AsmFault) {
     let Some(number) = fault.line() else {
         return;

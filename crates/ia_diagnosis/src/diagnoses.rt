@@ -107,8 +107,8 @@ fn further<'a>(
     Ok(Diagnoses { told, more: true })
 }
 
-/// The faults of a source, up to 20: the one that `assemble_image` tells, and then, each time without the line before, the next.
-/// None, where the source is assembled. `AllocError` where memory is refused.
+/// The faults of a source, up to 20: the one that `assemble_image` tells, and then, each time without the line before,
+/// the next. None, where the source is assembled. `AllocError` where memory is refused.
 pub fn diagnose<'a>(alloc: Global, source: &'a [u8]) -> Result<Diagnoses<'a>, AllocError>
     ensures { IfOk result (λ found. AreDiagnoses source.now found.told.items) }
 {

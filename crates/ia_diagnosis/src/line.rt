@@ -8,7 +8,8 @@ use ia_lex::first_line;
 
 /// The line of this number, from 1, and where it begins.
 pub fn line_at(source: &[u8], number: u32) -> Option<(usize, &[u8])>
-    ensures { MatchOption result (line_at source.now number ≡ None) (λ found. line_at source.now number ≡ Some found.1.now) }
+    ensures { MatchOption result (line_at source.now number ≡ None)
+        (λ found. line_at source.now number ≡ Some found.1.now) }
 {
     let mut place = 0;
     let mut above = number.saturating_sub(1);
@@ -40,8 +41,8 @@ impl Head<'_> {
     };
 }
 
-/// The label of a line: a word that may be one with a colon behind it, or alone, or before the name of an instruction or a
-/// directive.
+/// The label of a line: a word that may be one with a colon behind it, or alone, or before the name of an instruction
+/// or a directive.
 pub fn head_of<'a>(line: &'a [u8]) -> Head<'a> {
     let Some(first) = next_piece(line, 0) else {
         return Head::BARE;

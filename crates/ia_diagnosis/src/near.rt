@@ -41,8 +41,8 @@ impl<'w, 'a> Nearest<'w, 'a> {
     }
 }
 
-// How many edits lead from a word to a name, in any case; none where the lengths tell that they are not below a number, or a
-// text is long.
+// How many edits lead from a word to a name, in any case; none where the lengths tell that they are not below a number,
+// or a text is long.
 fn distance(
     alloc: Global,
     word: &[u8],

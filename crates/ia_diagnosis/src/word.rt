@@ -30,8 +30,8 @@ fn statement_of<'a>(alloc: Global, line: &'a [u8]) -> Result<Option<Piece<'a>>, 
     }
 }
 
-// What follows the colon of a label. Of two words of which neither names an instruction: the first, unless the second is near
-// one and the first is not.
+// What follows the colon of a label. Of two words of which neither names an instruction: the first, unless the second
+// is near one and the first is not.
 fn behind_label<'a>(
     alloc: Global,
     line: &'a [u8],

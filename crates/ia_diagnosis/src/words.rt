@@ -70,8 +70,8 @@ fn is_other_prefix(word: &[u8]) -> bool {
     is_among(&PREFIXES, word)
 }
 
-/// Whether a word is kept by NASM and is a symbol where a source here names one: a prefix, or a register or a size that is
-/// not read.
+/// Whether a word is kept by NASM and is a symbol where a source here names one: a prefix, or a register or a size that
+/// is not read.
 pub fn is_kept(word: &[u8]) -> bool {
     is_sixteen_bits(word)
         || is_other_register(word)

@@ -22,7 +22,8 @@ pub record IsMemoryEndBelow (file : List ℕ) (n end : ℕ) : Type 0 where
 more : (file : List ℕ) (n end : ℕ) → IsMemoryEndBelow file n end → Loads (segment file n) →
     end ≤ (segment file n).p_vaddr → IsMemoryEndBelow file (n + 1) (memory_end (segment file n))
 more file n end was loads behind = record {
-  in_order = λ j k lt lt0. below_more (λ q. j < q → Loads (segment file j) → Loads (segment file q) → memory_end (segment file j) ≤ (segment file q).p_vaddr) n
+  in_order = λ j k lt lt0. below_more (λ q. j < q → Loads (segment file j) → Loads (segment file q)
+      → memory_end (segment file j) ≤ (segment file q).p_vaddr) n
       (λ q h below. was.in_order j q below h)
       (λ below a _. let m = was.most j below a in omega arith) k lt0 lt;
   most = below_more (λ q. Loads (segment file q) → memory_end (segment file q) ≤ memory_end (segment file n)) n
@@ -33,19 +34,23 @@ more file n end was loads behind = record {
 -- one more segment, behind the others
 pub ends_more : (file : List ℕ) (n end : ℕ) (s : Segment) → IsMemoryEndBelow file n end → s ≡ segment file n → Loads s →
     end ≤ s.p_vaddr → IsMemoryEndBelow file (n + 1) (memory_end s)
-ends_more file n end s was is = let P : Segment → Type 0 = λ t. Loads t → end ≤ t.p_vaddr → IsMemoryEndBelow file (n + 1) (memory_end t) in
+ends_more file n end s was is =
+    let P : Segment → Type 0 = λ t. Loads t → end ≤ t.p_vaddr → IsMemoryEndBelow file (n + 1) (memory_end t) in
     subst P (sym is) (more file n end was)
 
-none : (file : List ℕ) (n end : ℕ) → IsMemoryEndBelow file n end → ¬ Loads (segment file n) → IsMemoryEndBelow file (n + 1) end
+none : (file : List ℕ) (n end : ℕ) → IsMemoryEndBelow file n end → ¬ Loads (segment file n)
+    → IsMemoryEndBelow file (n + 1) end
 none file n end was idle = record {
-  in_order = λ j k lt lt0. below_more (λ q. j < q → Loads (segment file j) → Loads (segment file q) → memory_end (segment file j) ≤ (segment file q).p_vaddr) n
+  in_order = λ j k lt lt0. below_more (λ q. j < q → Loads (segment file j) → Loads (segment file q)
+      → memory_end (segment file j) ≤ (segment file q).p_vaddr) n
       (λ q h below. was.in_order j q below h) (λ _ _ b. absurd (idle b)) k lt0 lt;
   most = below_more (λ q. Loads (segment file q) → memory_end (segment file q) ≤ end) n was.most (λ b. absurd (idle b));
   some = elim was.some [ inl z ↦ inl z | inr found ↦ inr (found.0, omega arith, found.2, found.3) ];
 }
 
 -- one more that isn't loaded
-pub ends_none : (file : List ℕ) (n end : ℕ) (s : Segment) → IsMemoryEndBelow file n end → s ≡ segment file n → ¬ Loads s →
+pub ends_none : (file : List ℕ) (n end : ℕ) (s : Segment) → IsMemoryEndBelow file n end
+    → s ≡ segment file n → ¬ Loads s →
     IsMemoryEndBelow file (n + 1) end
 ends_none file n end s was is = let P : Segment → Type 0 = λ t. ¬ Loads t → IsMemoryEndBelow file (n + 1) end in
     subst P (sym is) (none file n end was)
@@ -60,7 +65,8 @@ below_end file n end was within loads below order = elim was.some [
 -- a segment that begins below the end of another one
 pub ends_refused : (file : List ℕ) (n end : ℕ) (s : Segment) → IsMemoryEndBelow file n end → n < e_phnum file →
     s ≡ segment file n → Loads s → s.p_vaddr < end → InOrder file → ⊥
-ends_refused file n end s was within is = let P : Segment → Type 0 = λ t. Loads t → t.p_vaddr < end → InOrder file → ⊥ in
+ends_refused file n end s was within is =
+    let P : Segment → Type 0 = λ t. Loads t → t.p_vaddr < end → InOrder file → ⊥ in
     subst P (sym is) (below_end file n end was within)
 
 -- no code ends above the largest memory, and no segment

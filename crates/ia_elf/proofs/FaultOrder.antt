@@ -5,7 +5,8 @@ use Rattle.ia_elf.specs.Segments.{CodeInFront, EachSegment, InOrder, IsExecutabl
 use Rattle.ia_elf.specs.declared.fault.ElfFault.TheVariants as fault
 
 -- a file that passed all tests but the last, and all
-pub before_last : (file : List ℕ) → IsForThisMachine file → IsWhole file → IsExecutable file → SomeCode file → EachSegment file IsLow →
+pub before_last : (file : List ℕ) → IsForThisMachine file → IsWhole file → IsExecutable file → SomeCode file
+    → EachSegment file IsLow →
     InOrder file → IsFreeBefore file fault.CodeNotInFront
 before_last file machine whole executable code low order fault.NotForThisMachine h = machine
 before_last file machine whole executable code low order fault.Damaged h = whole
@@ -16,7 +17,8 @@ before_last file machine whole executable code low order fault.Overlap h = order
 before_last file machine whole executable code low order fault.CodeNotInFront h = absurd (omega arith)
 before_last file machine whole executable code low order fault.NoMemory h = absurd (omega arith)
 
-pub before_memory : (file : List ℕ) → IsForThisMachine file → IsWhole file → IsExecutable file → SomeCode file → EachSegment file IsLow →
+pub before_memory : (file : List ℕ) → IsForThisMachine file → IsWhole file → IsExecutable file → SomeCode file
+    → EachSegment file IsLow →
     InOrder file → CodeInFront file → IsFreeBefore file fault.NoMemory
 before_memory file machine whole executable code low order front fault.NotForThisMachine h = machine
 before_memory file machine whole executable code low order front fault.Damaged h = whole

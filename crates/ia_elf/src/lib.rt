@@ -2,9 +2,9 @@
 //!
 //! Promises that the bytes which are told are those that the segments state and zeros between them, nothing else; that
 //! the code is what the executable segments state, in front; that of several faults the first in a fixed order is told;
-//! that a symbol's value is the one of the table's first entry of that name; and that the bytes which are told of a section
-//! are those of the file's first section of that name. Stands on no other crate of the
-//! machine; takes memory for the bytes alone, since symbols borrow the file.
+//! that a symbol's value is the one of the table's first entry of that name; and that the bytes which are told of a
+//! section are those of the file's first section of that name. Stands on no other crate of the machine; takes memory
+//! for the bytes alone, since symbols borrow the file.
 #![tactic(auto)]
 
 mod elf;

@@ -51,8 +51,8 @@ fn named_bytes<'a>(file: &'a [u8], names: &[u8], number: u32, name: &[u8]) -> Op
     }
 }
 
-/// The bytes of the first section of this name that lies in the file. `None` where the file has none, or its sections have
-/// no names: the file need not be one that [`read_elf`](crate::read_elf) reads.
+/// The bytes of the first section of this name that lies in the file. `None` where the file has none, or its sections
+/// have no names: the file need not be one that [`read_elf`](crate::read_elf) reads.
 pub fn section_named<'a>(file: &'a [u8], name: &[u8]) -> Option<&'a [u8]>
     ensures some { IfSome result (λ bytes. HasNames file.now
         × (k : ℕ) × IsNamedSection file.now name.now bytes.now k) }

@@ -21,7 +21,8 @@ use Rattle.ia_exec.specs.Table.{effect_of, move_of, control_of, done_of, finish_
 not_loaded : (x : Access) → Some x ≡ None → ⊥
 not_loaded x e = cc
 
-value_same : (w : Width) (m : Operand) (r q : Regs) (a b : ℕ) → read_of w m r ≡ None → value_of w m q a ≡ value_of w m q b
+value_same : (w : Width) (m : Operand) (r q : Regs) (a b : ℕ) → read_of w m r ≡ None
+    → value_of w m q a ≡ value_of w m q b
 unfolding read_of value_of
 value_same B (Reg n) r q a b none = refl
 value_same D (Reg n) r q a b none = refl
@@ -42,7 +43,8 @@ from_unread w t (Memory n) r none = none
 from_unread w t (Reg n) r none = refl
 from_unread w t (Imm n) r none = refl
 
-bare_same : (k : BareOp) (r q : Regs) (a b depth : ℕ) → op_load (op.Bare k) r ≡ None → bare_of k q a depth ≡ bare_of k q b depth
+bare_same : (k : BareOp) (r q : Regs) (a b depth : ℕ) → op_load (op.Bare k) r ≡ None
+    → bare_of k q a depth ≡ bare_of k q b depth
 unfolding bare_of op_load
 bare_same bare.Leave r q a b depth none = elim (not_loaded _ none) [ ]
 bare_same _ r q a b depth none = refl
@@ -60,9 +62,11 @@ done_same (op.Test w t s) r q a b depth none =
     ap (λ v. goes_on (test_of w v (value_of w s q a) q)) (value_same w t r q a b (to_unread w t s r none))
     ∙ ap (λ v. goes_on (test_of w (value_of w t q b) v q)) (value_same w s r q a b (from_unread w t s r none))
 done_same (op.Unary k m) r q a b depth none = ap (λ v. unary_of k m v q depth) (value_same D m r q a b none)
-done_same (op.Imul n m) r q a b depth none = ap (λ v. goes_on (imul_low_of n (reg q n) v q)) (value_same D m r q a b none)
+done_same (op.Imul n m) r q a b depth none =
+    ap (λ v. goes_on (imul_low_of n (reg q n) v q)) (value_same D m r q a b none)
 done_same (op.ImulImm n m i) r q a b depth none = ap (λ v. goes_on (imul_low_of n v i q)) (value_same D m r q a b none)
-done_same (op.Shift k m c) r q a b depth none = ap (λ v. goes_on (shift_of k m (count_of c q) v q)) (value_same D m r q a b none)
+done_same (op.Shift k m c) r q a b depth none =
+    ap (λ v. goes_on (shift_of k m (count_of c q) v q)) (value_same D m r q a b none)
 done_same (op.Push m) r q a b depth none = ap (λ v. goes_on (push_of v q)) (value_same D m r q a b none)
 done_same (op.Pop m) r q a b depth none = elim (not_loaded _ none) [ ]
 done_same (op.Call d) r q a b depth none = refl
@@ -77,8 +81,10 @@ done_same (op.JccShort c d) r q a b depth none = refl
 done_same (op.Setcc c m) r q a b depth none = refl
 done_same (op.Cmovcc c n m) r q a b depth none = ap (λ v. goes_on (cmovcc_of c n v q)) (value_same D m r q a b none)
 done_same (op.LoopJump k d) r q a b depth none = refl
-done_same (op.Extend k n m) r q a b depth none = ap (λ v. goes_on (without_store (with_reg n (extended k v) q))) (value_same B m r q a b none)
-done_same (op.Exchange k m n) r q a b depth none = ap (λ v. goes_on (exchange_of k m n v q)) (value_same D m r q a b none)
+done_same (op.Extend k n m) r q a b depth none =
+    ap (λ v. goes_on (without_store (with_reg n (extended k v) q))) (value_same B m r q a b none)
+done_same (op.Exchange k m n) r q a b depth none =
+    ap (λ v. goes_on (exchange_of k m n v q)) (value_same D m r q a b none)
 done_same (op.Bit k m n) r q a b depth none = ap (λ v. goes_on (bit_of k m n v q)) (value_same D m r q a b none)
 done_same op.Nop r q a b depth none = refl
 done_same (op.NopOf m) r q a b depth none = refl
@@ -86,6 +92,7 @@ done_same (op.Bare k) r q a b depth none = bare_same k r q a b depth none
 done_same (op.Xbegin d) r q a b depth none = refl
 done_same (op.Xabort n) r q a b depth none = refl
 
-pub finish_same : (i : Insn) (len : ℕ) (r : Regs) (a b depth : ℕ) → load_of i r ≡ None → finish_of i len r a depth ≡ finish_of i len r b depth
+pub finish_same : (i : Insn) (len : ℕ) (r : Regs) (a b depth : ℕ) → load_of i r ≡ None
+    → finish_of i len r a depth ≡ finish_of i len r b depth
 unfolding finish_of load_of
 finish_same i len r a b depth none = done_same i.op r (behind len r) a b depth none

@@ -13,7 +13,8 @@ use Rattle.ia_foreign.specs.Prefixes.{is_prefix, has}
 use Rattle.ia_foreign.specs.declared.behind.Around.{Around}
 use Rattle.ia_foreign.specs.declared.behind.Opcode.{Opcode}
 use Rattle.ia_foreign.specs.declared.maps.Shape.{Shape}
-use Rattle.ia_foreign.specs.declared.maps.Shape.TheVariants.{Unsure, Bytes, Sized, Pointer, Offset, Operand, OperandSized}
+use Rattle.ia_foreign.specs.declared.maps.Shape.TheVariants.{Unsure, Bytes, Sized, Pointer, Offset, Operand}
+use Rattle.ia_foreign.specs.declared.maps.Shape.TheVariants.{OperandSized}
 use Rattle.ia_foreign.specs.declared.maps.Shape.TheVariants.{Memory, First, Repeated, Test, TestSized}
 
 abbrev pub byte_or_zero : List ℕ → ℕ → ℕ

@@ -2,7 +2,8 @@
 use Rattle.std.specs.Prelude.{ℕ, ◌==◌, if◌then◌else◌, slice_index}
 use Rattle.ia_foreign.specs.declared.maps.TheConstants.{ONE_BYTE, TWO_BYTE}
 use Rattle.ia_foreign.specs.declared.maps.Shape.{Shape}
-use Rattle.ia_foreign.specs.declared.maps.Shape.TheVariants.{Unsure, Bytes, Sized, Pointer, Offset, Operand, OperandSized}
+use Rattle.ia_foreign.specs.declared.maps.Shape.TheVariants.{Unsure, Bytes, Sized, Pointer, Offset, Operand}
+use Rattle.ia_foreign.specs.declared.maps.Shape.TheVariants.{OperandSized}
 use Rattle.ia_foreign.specs.declared.maps.Shape.TheVariants.{Memory, First, Repeated, Test, TestSized}
 
 -- the letter of an opcode

@@ -7,8 +7,8 @@
 //!
 //! Promises that a length is told only where the decoder refuses the bytes, that it is the one which the stated maps
 //! give (`specs/Length.antt`), and that it is at least 1 and never beyond the bytes. The words are compared with a
-//! disassembler by `scripts/compare-foreign`; no clause speaks of their text. Stands on `ia_decode` and `ia_insn`; takes
-//! no memory.
+//! disassembler by `scripts/compare-foreign`; no clause speaks of their text. Stands on `ia_decode` and `ia_insn`;
+//! takes no memory.
 #![tactic(auto)]
 
 mod behind;

@@ -1,5 +1,6 @@
 -- Hex digits in front of a text.
-use Rattle.std.proofs.Common.{◌≡◌, ℕ, ◌+◌, ◌*◌, ◌^◌, ◌<◌, ◌≤◌, Bool, true, false, ◌&&◌, List, [], ◌∷◌, refl, sym, ◌∙◌, ap, take, drop, length, get_or, arith, zero, suc}
+use Rattle.std.proofs.Common.{◌≡◌, ℕ, ◌+◌, ◌*◌, ◌^◌, ◌<◌, ◌≤◌, Bool, true, false, ◌&&◌, List, [], ◌∷◌, refl, sym, ◌∙◌}
+use Rattle.std.proofs.Common.{ap, take, drop, length, get_or, arith, zero, suc}
 use Rattle.std.specs.List.{prefix_len, list_all}
 use Rattle.std.specs.Char.{digit_value}
 use Rattle.std.specs.Str.Parse.{digits_value, AllDigits}
@@ -15,7 +16,8 @@ front_passes : (p : ℕ → Bool) (xs : List ℕ) → list_all p (take (prefix_l
 front_passes p [] = refl
 front_passes p (x ∷ xs) = by_first (p x) refl (front_passes p xs)
   where
-    by_first : (b : Bool) → p x ≡ b → list_all p (take (prefix_len p xs) xs) ≡ true → list_all p (take (prefix_len p (x ∷ xs)) (x ∷ xs)) ≡ true
+    by_first : (b : Bool) → p x ≡ b → list_all p (take (prefix_len p xs) xs) ≡ true
+        → list_all p (take (prefix_len p (x ∷ xs)) (x ∷ xs)) ≡ true
     by_first true e h =
         let one : 1 + prefix_len p xs ≡ suc (prefix_len p xs) = omega arith in
         rw e (rw one (rw e h))
@@ -49,10 +51,12 @@ digit_at xs i h within = by_test (is_hex (get_or xs i 0)) refl
     by_test true e = e
     by_test false e = absurd (false≢true (sym (list_all_at is_hex xs i 0 within e) ∙ h))
 
-pub value_step : (xs : List ℕ) (i : ℕ) → i < length xs → digits_value 16 (take (i + 1) xs) ≡ digits_value 16 (take i xs) * 16 + digit_value (get_or xs i 0)
+pub value_step : (xs : List ℕ) (i : ℕ) → i < length xs
+    → digits_value 16 (take (i + 1) xs) ≡ digits_value 16 (take i xs) * 16 + digit_value (get_or xs i 0)
 value_step xs i h = digits_value_more 16 xs i h
 
-pub value_small : (xs : List ℕ) (i : ℕ) → list_all is_hex xs ≡ true → length xs ≤ 8 → i < length xs → digits_value 16 (take i xs) < 268435456
+pub value_small : (xs : List ℕ) (i : ℕ) → list_all is_hex xs ≡ true → length xs ≤ 8 → i < length xs
+    → digits_value 16 (take i xs) < 268435456
 value_small xs i h few within =
     let below = digits_value-lt 16 (take i xs) (all_digits (take i xs) (all_taken i xs h)) in
     let long : length (take i xs) ≤ 7 = omega (arith, length-take i xs) in

@@ -1,5 +1,7 @@
 -- What is written is read back.
-use Rattle.std.proofs.Common.{◌≡◌, ℕ, zero, suc, ◌+◌, ◌*◌, ◌/◌, ◌^◌, ◌<◌, ◌≤◌, Bool, true, false, not, List, [], ◌∷◌, ◌++◌, Some, None, Ok, refl, sym, ◌∙◌, ap, append_assoc, append-nil, length, length-drop, drop, take, arith}
+use Rattle.std.proofs.Common.{◌≡◌, ℕ, zero, suc, ◌+◌, ◌*◌, ◌/◌, ◌^◌, ◌<◌, ◌≤◌, Bool, true, false, not, List, [], ◌∷◌}
+use Rattle.std.proofs.Common.{◌++◌, Some, None, Ok, refl, sym, ◌∙◌, ap, append_assoc, append-nil, length, length-drop}
+use Rattle.std.proofs.Common.{drop, take, arith}
 use Rattle.std.specs.Prelude.{◌==◌, ◌&&◌, cond, codes, All}
 use Rattle.std.proofs.Math.Seq.{drop-append_seam}
 use Rattle.std.proofs.lemmas.Bool.{false≢true, eqb-true, eq-eqb}
@@ -11,7 +13,9 @@ use Rattle.hex.specs.Hex.{IsBytes, encode_lower, is_hex_digit}
 use Rattle.hex.proofs.HexLemmas.{decode_of-encode_lower, decode_of-ok}
 use Rattle.ia_lex.specs.Lines.{lines_of, onto}
 use Rattle.text_out.specs.Number.{hex_digits}
-use Rattle.ia_image.specs.ImageText.{behind, bytes_of_line, bytes_of_lines, code_len_of, content_behind, content_of, content_of_lines, digit_rows, header_of, image_read, image_text, is_hex, number_in_front, numbers_of, rows}
+use Rattle.ia_image.specs.ImageText.{behind, bytes_of_line, bytes_of_lines, code_len_of, content_behind, content_of}
+use Rattle.ia_image.specs.ImageText.{content_of_lines, digit_rows, header_of, image_read, image_text, is_hex}
+use Rattle.ia_image.specs.ImageText.{number_in_front, numbers_of, rows}
 use Rattle.ia_image.proofs.Fronts.{both}
 use Rattle.ia_image.proofs.Written.{IsWritten, hex_written, number_again}
 
@@ -40,7 +44,8 @@ other p n c h e = by_test (c == n) refl
     by_test true t = absurd (false≢true (sym h ∙ ap p (sym (eqb-true c n t)) ∙ e))
     by_test false t = rw t refl
 
-all_plain : (p : ℕ → Bool) → p 10 ≡ false → p 13 ≡ false → (xs : List ℕ) → list_all p xs ≡ true → list_all plain xs ≡ true
+all_plain : (p : ℕ → Bool) → p 10 ≡ false → p 13 ≡ false → (xs : List ℕ) → list_all p xs ≡ true
+    → list_all plain xs ≡ true
 all_plain p lf cr [] h = refl
 all_plain p lf cr (x ∷ xs) h =
     let parts = both (p x) (list_all p xs) h in
@@ -66,33 +71,41 @@ bytes_taken (suc n) (x ∷ xs) h (suc i) = bytes_taken n xs (λ k. h (suc k)) i
 bytes_dropped : (n : ℕ) (xs : List ℕ) → IsBytes xs → IsBytes (drop n xs)
 bytes_dropped n xs h i = rw (get_or-drop n xs i 0) (h (n + i))
 
-rows_again : (n number : ℕ) (bytes : List ℕ) → IsBytes bytes → length bytes ≤ 32 * n → bytes_of_lines number (lines_of (rows n bytes)) ≡ Ok bytes
+rows_again : (n number : ℕ) (bytes : List ℕ) → IsBytes bytes → length bytes ≤ 32 * n
+    → bytes_of_lines number (lines_of (rows n bytes)) ≡ Ok bytes
 unfolding rows
 rows_again zero number [] h e = refl
 rows_again zero number (b ∷ bytes) h e = absurd (omega arith)
 rows_again (suc n) number bytes h e =
     let front = bytes_taken 32 bytes h in
-    let more = rows_again n (number + 1) (drop 32 bytes) (bytes_dropped 32 bytes h) (omega (arith, length-drop 32 bytes)) in
-    ap (bytes_of_lines number) (line_ends (encode_lower (take 32 bytes)) (rows n (drop 32 bytes)) (encoded_plain (take 32 bytes) front))
-    ∙ ap (λ d. bytes_of_line d number (bytes_of_lines (number + 1) (lines_of (rows n (drop 32 bytes))))) (decode_of-encode_lower (take 32 bytes) front)
+    let more =
+    rows_again n (number + 1) (drop 32 bytes) (bytes_dropped 32 bytes h) (omega (arith, length-drop 32 bytes)) in
+    ap (bytes_of_lines number)
+    (line_ends (encode_lower (take 32 bytes)) (rows n (drop 32 bytes)) (encoded_plain (take 32 bytes) front))
+    ∙ ap (λ d. bytes_of_line d number (bytes_of_lines (number + 1) (lines_of (rows n (drop 32 bytes)))))
+    (decode_of-encode_lower (take 32 bytes) front)
     ∙ ap (behind (take 32 bytes)) more
     ∙ ap Ok (take-append-drop 32 bytes)
 
 -- ---- the first line
 
-header_again : (base code_len : ℕ) (a b : List ℕ) → IsWritten base a → IsWritten code_len b → header_of (codes "image 1 " ++ (a ++ 32 ∷ b)) ≡ Some (base, code_len)
+header_again : (base code_len : ℕ) (a b : List ℕ) → IsWritten base a → IsWritten code_len b
+    → header_of (codes "image 1 " ++ (a ++ 32 ∷ b)) ≡ Some (base, code_len)
 unfolding header_of
 header_again base code_len a b ha hb =
-    let last : number_in_front b ≡ Some (code_len, length b) = ap number_in_front (sym (append-nil b)) ∙ number_again code_len b [] hb refl in
+    let last : number_in_front b ≡ Some (code_len, length b) =
+    ap number_in_front (sym (append-nil b)) ∙ number_again code_len b [] hb refl in
     ap (numbers_of (a ++ 32 ∷ b)) (number_again base a (32 ∷ b) ha refl)
-    ∙ ap (λ rest. cond (starts_with ◌==◌ rest (codes " ")) (code_len_of base (drop 1 rest) (number_in_front (drop 1 rest))) None) (drop-append_seam a (32 ∷ b))
+    ∙ ap (λ rest. cond (starts_with ◌==◌ rest (codes " "))
+    (code_len_of base (drop 1 rest) (number_in_front (drop 1 rest))) None) (drop-append_seam a (32 ∷ b))
     ∙ ap (code_len_of base b) last
     ∙ ap (λ t. cond t (Some (base, code_len)) None) (eq-eqb (length b) (length b) refl)
 
 grouped : (a b : List ℕ) → codes "image 1 " ++ a ++ codes " " ++ b ≡ codes "image 1 " ++ (a ++ 32 ∷ b)
 grouped a b = simp append_assoc
 
-header_plain : (a b : List ℕ) → list_all is_hex a ≡ true → list_all is_hex b ≡ true → list_all plain (codes "image 1 " ++ (a ++ 32 ∷ b)) ≡ true
+header_plain : (a b : List ℕ) → list_all is_hex a ≡ true → list_all is_hex b ≡ true
+    → list_all plain (codes "image 1 " ++ (a ++ 32 ∷ b)) ≡ true
 header_plain a b ha hb =
     list_all-append plain a (32 ∷ b)
     ∙ ap (λ t. t && list_all plain (32 ∷ b)) (all_plain is_hex refl refl a ha)
@@ -108,6 +121,9 @@ read_back bytes base code_len h hb hc =
     let second = hex_written code_len hc in
     let line = grouped (hex_digits base) (hex_digits code_len) in
     ap (λ l. content_of_lines (lines_of (l ++ 10 ∷ digit_rows bytes))) line
-    ∙ ap content_of_lines (line_ends (codes "image 1 " ++ (hex_digits base ++ 32 ∷ hex_digits code_len)) (digit_rows bytes) (header_plain (hex_digits base) (hex_digits code_len) first.hex second.hex))
-    ∙ ap (λ o. content_behind o (lines_of (digit_rows bytes))) (header_again base code_len (hex_digits base) (hex_digits code_len) first second)
+    ∙ ap content_of_lines
+    (line_ends (codes "image 1 " ++ (hex_digits base ++ 32 ∷ hex_digits code_len)) (digit_rows bytes)
+    (header_plain (hex_digits base) (hex_digits code_len) first.hex second.hex))
+    ∙ ap (λ o. content_behind o (lines_of (digit_rows bytes)))
+    (header_again base code_len (hex_digits base) (hex_digits code_len) first second)
     ∙ ap (content_of (base, code_len)) (rows_again ((length bytes + 31) / 32) 2 bytes h (omega arith))

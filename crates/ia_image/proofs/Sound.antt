@@ -1,5 +1,6 @@
 -- What the tests of the loader leave.
-use Rattle.std.proofs.Common.{◌≡◌, ℕ, ◌+◌, ◌*◌, ◌%◌, ◌<◌, ◌≤◌, Bool, true, false, ◌||◌, refl, List, [], ◌∷◌, length, Option, Some, None, arith}
+use Rattle.std.proofs.Common.{◌≡◌, ℕ, ◌+◌, ◌*◌, ◌%◌, ◌<◌, ◌≤◌, Bool, true, false, ◌||◌, refl, List, [], ◌∷◌, length}
+use Rattle.std.proofs.Common.{Option, Some, None, arith}
 use Rattle.std.specs.Prelude.{All, cond, nat_lt, ◌==◌}
 use Rattle.std.specs.List.{list_any}
 use Rattle.std.proofs.lemmas.Bool.Decides.{nat_tests}
@@ -23,12 +24,14 @@ all_inside : (base code_len : ℕ) (entries : List ℕ) → list_any (outside_co
 all_inside base code_len [] h = All-nil (λ e. (base ≤ e) × (e < base + code_len))
 all_inside base code_len (e ∷ es) h =
     let both = neither (outside_code base code_len e) (list_any (outside_code base code_len) es) h in
-    All-cons (λ x. (base ≤ x) × (x < base + code_len)) e es (inside base code_len e both.0) (all_inside base code_len es both.1)
+    All-cons (λ x. (base ≤ x) × (x < base + code_len)) e es (inside base code_len e both.0)
+    (all_inside base code_len es both.1)
 
 cores_right : (n : ℕ) → bad_cores n ≡ false → (0 < n) × (n ≤ 64)
 cores_right n h = grind (arith, nat_tests)
 
-size_right : (size cores : ℕ) → bad_memory_size size cores ≡ false → (size % 4096 ≡ 0) × (4096 * (cores + 1) ≤ size) × (size ≤ 268435456)
+size_right : (size cores : ℕ) → bad_memory_size size cores ≡ false
+    → (size % 4096 ≡ 0) × (4096 * (cores + 1) ≤ size) × (size ≤ 268435456)
 size_right size cores h = grind (arith, nat_tests)
 
 some_byte : (n : ℕ) → (n == 0) ≡ false → 0 < n
@@ -38,7 +41,8 @@ not_less : (a b : ℕ) → nat_lt a b ≡ false → b ≤ a
 not_less a b h = grind (arith, nat_tests)
 
 -- an image that passes all of them is a program
-pub sound : (bytes : List ℕ) (base code_len mem_size : ℕ) (entries : List ℕ) → load_refusal bytes base code_len mem_size entries ≡ None →
+pub sound : (bytes : List ℕ) (base code_len mem_size : ℕ) (entries : List ℕ)
+    → load_refusal bytes base code_len mem_size entries ≡ None →
     IsSound (record { bytes = bytes; base = base; code_len = code_len; mem_size = mem_size; entries = entries })
 unfolding load_refusal
 sound bytes base code_len mem_size entries h =

@@ -1,5 +1,6 @@
 -- Written numbers are read again.
-use Rattle.std.proofs.Common.{◌≡◌, ℕ, zero, suc, ◌^◌, ◌<◌, ◌≤◌, Bool, true, false, List, [], ◌∷◌, ◌++◌, Some, refl, sym, ◌∙◌, ap, subst, length, arith, rules}
+use Rattle.std.proofs.Common.{◌≡◌, ℕ, zero, suc, ◌^◌, ◌<◌, ◌≤◌, Bool, true, false, List, [], ◌∷◌, ◌++◌, Some, refl, sym}
+use Rattle.std.proofs.Common.{◌∙◌, ap, subst, length, arith, rules}
 use Rattle.std.specs.Prelude.{◌==◌, cond, nat_lt, nat_le, codes}
 use Rattle.std.proofs.Math.Seq.{take-append_seam}
 use Rattle.std.specs.List.{list_all, prefix_len}
@@ -34,7 +35,8 @@ hex_written (suc k) h =
       value = value_again (suc k);
     })
 
-whole_prefix : (p : ℕ → Bool) (xs rest : List ℕ) → list_all p xs ≡ true → prefix_len p rest ≡ 0 → prefix_len p (xs ++ rest) ≡ length xs
+whole_prefix : (p : ℕ → Bool) (xs rest : List ℕ) → list_all p xs ≡ true → prefix_len p rest ≡ 0
+    → prefix_len p (xs ++ rest) ≡ length xs
 whole_prefix p [] rest h e = e
 whole_prefix p (x ∷ xs) rest h e =
     let parts = both (p x) (list_all p xs) h in
@@ -42,7 +44,8 @@ whole_prefix p (x ∷ xs) rest h e =
     rw parts.0 (omega arith)
 
 -- it is read, with whatever behind that is no digit
-pub number_again : (n : ℕ) (ds rest : List ℕ) → IsWritten n ds → prefix_len is_hex rest ≡ 0 → number_in_front (ds ++ rest) ≡ Some (n, length ds)
+pub number_again : (n : ℕ) (ds rest : List ℕ) → IsWritten n ds → prefix_len is_hex rest ≡ 0
+    → number_in_front (ds ++ rest) ≡ Some (n, length ds)
 unfolding number_in_front
 number_again n ds rest w e =
     let count = whole_prefix is_hex ds rest w.hex e in
@@ -50,4 +53,5 @@ number_again n ds rest w e =
     let few : length ds ≤ 8 = w.few in
     let t1 : nat_lt 0 (length ds) ≡ true = search rules in
     let t2 : nat_le (length ds) 8 ≡ true = search rules in
-    rw (count, t1, t2) (ap (λ l. Some (digits_value 16 l, length ds)) (take-append_seam ds rest) ∙ ap (λ v. Some (v, length ds)) w.value)
+    rw (count, t1, t2)
+    (ap (λ l. Some (digits_value 16 l, length ds)) (take-append_seam ds rest) ∙ ap (λ v. Some (v, length ds)) w.value)

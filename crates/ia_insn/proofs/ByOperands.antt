@@ -35,7 +35,8 @@ not_both true = refl
 not_both false = refl
 
 -- a destination and a source
-pair : (w : Width) (t s : Operand) → fits_pair w t s ≡ (fits_operand t && fits_argument (is.Source w s) && true && not (is_place t && is_place s))
+pair : (w : Width) (t s : Operand)
+    → fits_pair w t s ≡ (fits_operand t && fits_argument (is.Source w s) && true && not (is_place t && is_place s))
 pair w (Reg t) (Reg s) = two_tests (fits_operand (Reg t)) (fits_argument (is.Source w (Reg s)))
 pair w (Reg t) (Memory s) = two_tests (fits_operand (Reg t)) (fits_argument (is.Source w (Memory s)))
 pair w (Reg t) (Imm s) = two_tests (fits_operand (Reg t)) (fits_argument (is.Source w (Imm s)))
@@ -46,7 +47,8 @@ pair w (Imm t) (Reg s) = refl
 pair w (Imm t) (Memory s) = refl
 pair w (Imm t) (Imm s) = refl
 
-test : (w : Width) (t s : Operand) → fits_test w t s ≡ (fits_operand t && fits_argument (is.Source w s) && true && not (is_place s))
+test : (w : Width) (t s : Operand)
+    → fits_test w t s ≡ (fits_operand t && fits_argument (is.Source w s) && true && not (is_place s))
 test w t (Reg s) = two_tests (fits_operand t) (fits_argument (is.Source w (Reg s)))
 test w t (Memory s) = not_both (fits_operand t && fits_argument (is.Source w (Memory s)) && true)
 test w t (Imm s) = two_tests (fits_operand t) (fits_argument (is.Source w (Imm s)))
@@ -65,7 +67,8 @@ by_operands (op.IncDec k w m) = one_test (fits_operand m)
 by_operands (op.Test w t s) = test w t s
 by_operands (op.Unary k m) = one_test (fits_operand m)
 by_operands (op.Imul r m) = two_tests (fits_operand (Reg r)) (fits_operand m)
-by_operands (op.ImulImm r m n) = three_tests (fits_operand (Reg r)) (fits_operand m) (fits_argument (is.Source D (Imm n)))
+by_operands (op.ImulImm r m n) =
+    three_tests (fits_operand (Reg r)) (fits_operand m) (fits_argument (is.Source D (Imm n)))
 by_operands (op.Shift k m c) = two_tests (fits_operand m) (fits_argument (is.Count c))
 by_operands (op.Push m) = push m
 by_operands (op.Pop m) = one_test (fits_operand m)

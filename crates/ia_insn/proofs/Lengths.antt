@@ -5,8 +5,10 @@ use Rattle.ia_insn.specs.declared.op.Op.{Op}
 use Rattle.ia_insn.specs.declared.op.Insn.{Insn}
 use Rattle.ia_insn.specs.declared.operand.Mem.{Mem}
 use Rattle.ia_insn.specs.declared.operand.Operand.{Operand}
-use Rattle.ia_insn.specs.Operands.{Head, SpellsDisp, no_disp, disp8, disp32, SpellsBase, no_base, base, SpellsMem, plain as plain_mem, sib, SpellsOperand, register, memory}
-use Rattle.ia_insn.specs.Form.{Tail, Form, SpellsTail, nothing, byte, signed_byte, two_bytes, four_bytes, SpellsForm, alone, operand, chosen, place}
+use Rattle.ia_insn.specs.Operands.{Head, SpellsDisp, no_disp, disp8, disp32, SpellsBase, no_base, base, SpellsMem}
+use Rattle.ia_insn.specs.Operands.{plain as plain_mem, sib, SpellsOperand, register, memory}
+use Rattle.ia_insn.specs.Form.{Tail, Form, SpellsTail, nothing, byte, signed_byte, two_bytes, four_bytes, SpellsForm}
+use Rattle.ia_insn.specs.Form.{alone, operand, chosen, place}
 use Rattle.ia_insn.specs.Table.{SpellsOp, one, two, with_f3}
 use Rattle.ia_insn.specs.Spelling.{Spells, unlocked, locked}
 

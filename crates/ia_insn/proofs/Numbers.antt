@@ -23,9 +23,11 @@ use Rattle.ia_word.specs.declared.width.Width.TheVariants.{B, D}
 use Rattle.ia_word.specs.Condition.{condition_number}
 use Rattle.ia_insn.specs.declared.op.Op.TheVariants as op
 use Rattle.ia_insn.specs.Form.{done, ibs, id, plain}
-use Rattle.ia_insn.specs.Table.{one_byte, row_40, row_C0, two_byte, m_r, r_m, alu_of, shift_of, bit_of, inc_dec_of, unary_of, ff_of, only}
+use Rattle.ia_insn.specs.Table.{one_byte, row_40, row_C0, two_byte, m_r, r_m, alu_of, shift_of, bit_of, inc_dec_of}
+use Rattle.ia_insn.specs.Table.{unary_of, ff_of, only}
 use Rattle.ia_insn.specs.Encoding.{width_bit}
-use Rattle.ia_insn.specs.Operations.{alu_number, shift_number, bit_number, unary_number, inc_dec_number, extend_opcode, exchange_opcode, loop_opcode}
+use Rattle.ia_insn.specs.Operations.{alu_number, shift_number, bit_number, unary_number, inc_dec_number, extend_opcode}
+use Rattle.ia_insn.specs.Operations.{exchange_opcode, loop_opcode}
 
 -- ---- numbers in an opcode or behind one
 

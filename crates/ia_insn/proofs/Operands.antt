@@ -1,5 +1,6 @@
 -- Displacements, places in memory and operands are read exactly.
-use Rattle.std.proofs.Common.{◌≡◌, ◌≢◌, ℕ, zero, suc, ◌%◌, ◌^◌, ◌<◌, Bool, true, false, List, [], ◌∷◌, Option, Some, None, refl, arith}
+use Rattle.std.proofs.Common.{◌≡◌, ◌≢◌, ℕ, zero, suc, ◌%◌, ◌^◌, ◌<◌, Bool, true, false, List, [], ◌∷◌, Option, Some}
+use Rattle.std.proofs.Common.{None, refl, arith}
 use Rattle.std.specs.Prelude.{◌&&◌, ◌==◌}
 use Rattle.std.specs.Int.{w32}
 use Rattle.std.proofs.lemmas.Bool.{eqb-true, eqb-false, and_parts}
@@ -7,7 +8,8 @@ use Rattle.ia_word.specs.Bytes.{sign_extended}
 use Rattle.ia_insn.specs.declared.operand.Mem.{Mem}
 use Rattle.ia_insn.specs.declared.operand.Operand.{Operand}
 use Rattle.ia_insn.specs.declared.operand.Operand.TheVariants.{Reg, Mem as Memory}
-use Rattle.ia_insn.specs.Operands.{Head, index_of, scale_of, SpellsDisp, no_disp, disp8, disp32, SpellsBase, no_base, base, SpellsMem, plain, sib, SpellsOperand, register, memory}
+use Rattle.ia_insn.specs.Operands.{Head, index_of, scale_of, SpellsDisp, no_disp, disp8, disp32, SpellsBase, no_base}
+use Rattle.ia_insn.specs.Operands.{base, SpellsMem, plain, sib, SpellsOperand, register, memory}
 use Rattle.ia_insn.specs.Reading.{◌>>=◌, byte_at, long_at, signed_at, disp_at, base_at, mem_at, operand_at}
 use Rattle.ia_insn.proofs.Exact.{Exact, Exact-same, Then, Exact-then, Made, Exact-made, Exact-nothing, Exact-if, given}
 use Rattle.ia_insn.proofs.Parts.{IsByte, exact_byte, IsNumber, exact_long}
@@ -30,7 +32,8 @@ disp2_from (disp32 h) = (h, refl)
 pub exact_disp : (mode : ℕ) → mode < 3 → Exact (SpellsDisp mode) (disp_at mode)
 unfolding disp_at
 exact_disp zero lt = Exact-same (λ s d h. rw (h.0, h.1) no_disp) (λ s d h. disp0_from h) (Exact-nothing 0)
-exact_disp (suc zero) lt = Exact-same (λ s d h. rw (h.spelt.1, h.is) (disp8 h.spelt.0)) (λ s d h. disp1_from h) exact_signed
+exact_disp (suc zero) lt =
+    Exact-same (λ s d h. rw (h.spelt.1, h.is) (disp8 h.spelt.0)) (λ s d h. disp1_from h) exact_signed
 exact_disp (suc (suc zero)) lt = Exact-same (λ s d h. rw h.1 (disp32 h.0)) (λ s d h. disp2_from h) exact_long
 exact_disp (suc (suc (suc n))) lt = absurd (omega arith)
 
@@ -39,11 +42,13 @@ exact_disp (suc (suc (suc n))) lt = absurd (omega arith)
 abbrev IsBase : ℕ → ℕ → List ℕ → Option ℕ × ℕ → Type 0
 IsBase mode r s p = SpellsBase mode r s p.0 p.1
 
-none_from : {mode r : ℕ} {s : List ℕ} {b : Option ℕ} {d : ℕ} → SpellsBase mode r s b d → mode ≡ 0 → r ≡ 5 → (b ≡ None) × IsNumber w32 (2 ^ 32) s d
+none_from : {mode r : ℕ} {s : List ℕ} {b : Option ℕ} {d : ℕ} → SpellsBase mode r s b d → mode ≡ 0 → r ≡ 5
+    → (b ≡ None) × IsNumber w32 (2 ^ 32) s d
 none_from (no_base h) p q = (refl, (h, refl))
 none_from (base h x) p q = absurd (h p q)
 
-some_from : {mode r : ℕ} {s : List ℕ} {b : Option ℕ} {d : ℕ} → SpellsBase mode r s b d → (mode ≡ 0 → r ≢ 5) → (b ≡ Some r) × SpellsDisp mode s d
+some_from : {mode r : ℕ} {s : List ℕ} {b : Option ℕ} {d : ℕ} → SpellsBase mode r s b d → (mode ≡ 0 → r ≢ 5)
+    → (b ≡ Some r) × SpellsDisp mode s d
 some_from (no_base h) p = absurd (p refl refl)
 some_from (base h x) p = (refl, x)
 
@@ -121,7 +126,8 @@ register_from : {h : Head} {s : List ℕ} {m : Operand} → SpellsOperand h s m 
 register_from (register e) p = (refl, refl)
 register_from (memory n x) p = absurd (n p)
 
-memory_from : {h : Head} {s : List ℕ} {m : Operand} → SpellsOperand h s m → h.mode ≢ 3 → Made (SpellsMem h.mode h.rm) Memory s m
+memory_from : {h : Head} {s : List ℕ} {m : Operand} → SpellsOperand h s m → h.mode ≢ 3
+    → Made (SpellsMem h.mode h.rm) Memory s m
 memory_from (register e) p = absurd (p e)
 memory_from (memory {m = m} n x) p = record { value = m; spelt = x; is = refl }
 

@@ -1,10 +1,12 @@
 -- No row hides another: the rows of each block rise, do not overlap, and lie within the block.
-use Rattle.std.proofs.Common.{◌≡◌, ℕ, zero, suc, ◌+◌, ◌-◌, ◌*◌, ◌/◌, ◌%◌, ◌<◌, ◌≤◌, Bool, true, cond, List, [], ◌∷◌, length, refl, ap, ◌∙◌, arith}
+use Rattle.std.proofs.Common.{◌≡◌, ℕ, zero, suc, ◌+◌, ◌-◌, ◌*◌, ◌/◌, ◌%◌, ◌<◌, ◌≤◌, Bool, true, cond, List, [], ◌∷◌}
+use Rattle.std.proofs.Common.{length, refl, ap, ◌∙◌, arith}
 use Rattle.std.specs.Prelude.{◌&&◌, nat_le, nat_lt, slice_index_or, All}
 use Rattle.std.proofs.lemmas.Bool.{leb-true, le-leb, lt-ltb, le-ltb, and_parts, and_from, and_right}
 use Rattle.ia_word.specs.declared.operation.AluOp.{AluOp}
 use Rattle.ia_insn.specs.Form.{Form}
-use Rattle.ia_insn.specs.Table.{OpcodeRow, look_up, alu_rows, alu_row, rows_40, rows_80, rows_A0, rows_C0, row_40, row_80, row_A0, row_C0, one_byte, two_byte_rows, two_byte}
+use Rattle.ia_insn.specs.Table.{OpcodeRow, look_up, alu_rows, alu_row, rows_40, rows_80, rows_A0, rows_C0, row_40}
+use Rattle.ia_insn.specs.Table.{row_80, row_A0, row_C0, one_byte, two_byte_rows, two_byte}
 use Rattle.ia_insn.specs.Operations.{alu_number}
 use Rattle.ia_insn.specs.Order.{IsReached}
 use Rattle.ia_insn.proofs.Numbers.{alu_low, alu_back}
@@ -21,7 +23,8 @@ order_le (r ∷ rs) from end e =
 
 first_row : (r : OpcodeRow) (rs : List OpcodeRow) (j : ℕ) → j < r.many → look_up (r ∷ rs) (r.first + j) ≡ r.form j
 first_row r rs j lt =
-    let t = and_from (nat_le r.first (r.first + j)) (nat_lt (r.first + j) (r.first + r.many)) (le-leb r.first (r.first + j) (omega arith)) (lt-ltb (r.first + j) (r.first + r.many) (omega arith)) in
+    let t = and_from (nat_le r.first (r.first + j)) (nat_lt (r.first + j) (r.first + r.many))
+    (le-leb r.first (r.first + j) (omega arith)) (lt-ltb (r.first + j) (r.first + r.many) (omega arith)) in
     let m : r.first + j - r.first ≡ j = omega arith in
     ap (λ (z : Bool). cond z (r.form (r.first + j - r.first)) (look_up rs (r.first + j))) t ∙ ap r.form m
 
@@ -35,19 +38,29 @@ record Within (look : ℕ → Form) (from end : ℕ) (r : OpcodeRow) : Type 0 wh
   high : r.first + r.many ≤ end
   here : IsReached look r
 
-reached : (rs : List OpcodeRow) (from end : ℕ) → in_order from end rs ≡ true → (k : ℕ) (d : OpcodeRow) → k < length rs → Within (look_up rs) from end (slice_index_or rs k d)
+reached : (rs : List OpcodeRow) (from end : ℕ) → in_order from end rs ≡ true → (k : ℕ) (d : OpcodeRow) → k < length rs
+    → Within (look_up rs) from end (slice_index_or rs k d)
 reached [] from end e k d lt = absurd (omega arith)
 reached (r ∷ rs) from end e zero d lt =
     let p = and_parts (nat_le from r.first) (in_order (r.first + r.many) end rs) e in
-    record { low = leb-true from r.first p.0; high = order_le rs (r.first + r.many) end p.1; here = λ j lj. first_row r rs j lj }
+    record {
+      low = leb-true from r.first p.0;
+      high = order_le rs (r.first + r.many) end p.1;
+      here = λ j lj. first_row r rs j lj;
+    }
 reached (r ∷ rs) from end e (suc k) d lt =
     let p = and_parts (nat_le from r.first) (in_order (r.first + r.many) end rs) e in
     let w = reached rs (r.first + r.many) end p.1 k d (omega arith) in
     let x = slice_index_or rs k d in
-    record { low = omega (arith, leb-true from r.first p.0, w.low); high = w.high; here = λ j lj. later_row r rs (x.first + j) (omega (arith, w.low)) ∙ w.here j lj }
+    record {
+      low = omega (arith, leb-true from r.first p.0, w.low);
+      high = w.high;
+      here = λ j lj. later_row r rs (x.first + j) (omega (arith, w.low)) ∙ w.here j lj;
+    }
 
 -- the rows of a block are reached where the map is the block's
-in_block : (map : ℕ → Form) (rs : List OpcodeRow) (from end : ℕ) → in_order from end rs ≡ true → ((b : ℕ) → from ≤ b → b < end → map b ≡ look_up rs b) → All (IsReached map) rs
+in_block : (map : ℕ → Form) (rs : List OpcodeRow) (from end : ℕ) → in_order from end rs ≡ true
+    → ((b : ℕ) → from ≤ b → b < end → map b ≡ look_up rs b) → All (IsReached map) rs
 in_block map rs from end e same k d lt j lj =
     let w = reached rs from end e k d lt in
     let x = slice_index_or rs k d in
@@ -73,11 +86,13 @@ block_80 b low high = rw (le-ltb b 0x40 (omega arith), le-ltb b 0x80 low, lt-ltb
 
 block_A0 : (b : ℕ) → 0xA0 ≤ b → b < 0xC0 → one_byte b ≡ look_up rows_A0 b
 unfolding one_byte row_A0
-block_A0 b low high = rw (le-ltb b 0x40 (omega arith), le-ltb b 0x80 (omega arith), le-ltb b 0xA0 low, lt-ltb b 0xC0 high) refl
+block_A0 b low high =
+    rw (le-ltb b 0x40 (omega arith), le-ltb b 0x80 (omega arith), le-ltb b 0xA0 low, lt-ltb b 0xC0 high) refl
 
 block_C0 : (b : ℕ) → 0xC0 ≤ b → b < 0x100 → one_byte b ≡ look_up rows_C0 b
 unfolding one_byte row_C0
-block_C0 b low high = rw (le-ltb b 0x40 (omega arith), le-ltb b 0x80 (omega arith), le-ltb b 0xA0 (omega arith), le-ltb b 0xC0 low) refl
+block_C0 b low high =
+    rw (le-ltb b 0x40 (omega arith), le-ltb b 0x80 (omega arith), le-ltb b 0xA0 (omega arith), le-ltb b 0xC0 low) refl
 
 -- ---- the maps
 

@@ -1,5 +1,6 @@
 -- Numbers, displacements and operands are read exactly.
-use Rattle.std.proofs.Common.{◌≡◌, ℕ, zero, suc, ◌-◌, ◌^◌, ◌<◌, ◌≤◌, Bool, true, false, cond, ltb, List, [], ◌∷◌, ◌++◌, length, take, drop, get_or, replicate, Ok, Err, refl, sym, ap, subst, ◌∙◌, arith}
+use Rattle.std.proofs.Common.{◌≡◌, ℕ, zero, suc, ◌-◌, ◌^◌, ◌<◌, ◌≤◌, Bool, true, false, cond, ltb, List, [], ◌∷◌, ◌++◌}
+use Rattle.std.proofs.Common.{length, take, drop, get_or, replicate, Ok, Err, refl, sym, ap, subst, ◌∙◌, arith}
 use Rattle.std.specs.Int.{Width, w16, w32, byte_len, from_le_bytes, to_le_bytes}
 use Rattle.std.proofs.lemmas.Bool.{ltb-false, ltb-true, le-ltb}
 use Rattle.std.proofs.lemmas.List.{take_at, drop_at, take-append-drop, length-append, length-take, length-replicate}
@@ -14,7 +15,8 @@ use Rattle.ia_insn.proofs.Exact.{IsBytes, IsBytes-append, IsBytes-left, bytes_at
 abbrev pub IsByte : List ℕ → ℕ → Type 0
 IsByte s b = (b < 256) × (s ≡ b ∷ [])
 
-byte_found : (bytes : List ℕ) (b : ℕ) (rest : List ℕ) → IsBytes bytes → byte_at bytes ≡ Ok (b, rest) → (s : List ℕ) × IsByte s b × (bytes ≡ s ++ rest)
+byte_found : (bytes : List ℕ) (b : ℕ) (rest : List ℕ) → IsBytes bytes → byte_at bytes ≡ Ok (b, rest)
+    → (s : List ℕ) × IsByte s b × (bytes ≡ s ++ rest)
 byte_found [] b rest fits e = absurd cc
 byte_found (c ∷ bytes) b rest fits e =
     let same = ok_is (c, bytes) (b, rest) e in
@@ -22,7 +24,8 @@ byte_found (c ∷ bytes) b rest fits e =
     let rest-is : bytes ≡ rest = ap (λ (p : ℕ × List ℕ). p.1) same in
     (b ∷ [], (rw (← c-is) fits.0, refl), cc)
 
-byte_short : (bytes : List ℕ) (e : DecodeFault) → IsBytes bytes → byte_at bytes ≡ Err e → (e ≡ Short) × (more : List ℕ) × (b : ℕ) × IsByte (bytes ++ more) b
+byte_short : (bytes : List ℕ) (e : DecodeFault) → IsBytes bytes → byte_at bytes ≡ Err e
+    → (e ≡ Short) × (more : List ℕ) × (b : ℕ) × IsByte (bytes ++ more) b
 byte_short [] e fits h = (cc, 0 ∷ [], 0, (omega arith, refl))
 byte_short (c ∷ bytes) e fits h = absurd cc
 
@@ -39,7 +42,8 @@ exact_byte = record {
 
 pub record IsWide (w : Width) (limit : ℕ) : Type 0 where
   pub len : (n : ℕ) → length (to_le_bytes w n) ≡ byte_len w
-  pub back : (bytes : List ℕ) → length bytes ≡ byte_len w → ((i : ℕ) → get_or bytes i 0 < 256) → to_le_bytes w (from_le_bytes w bytes) ≡ bytes
+  pub back : (bytes : List ℕ) → length bytes ≡ byte_len w → ((i : ℕ) → get_or bytes i 0 < 256)
+      → to_le_bytes w (from_le_bytes w bytes) ≡ bytes
   pub again : (n : ℕ) → n < limit → from_le_bytes w (to_le_bytes w n) ≡ n
   pub below : (bytes : List ℕ) → ((i : ℕ) → get_or bytes i 0 < 256) → from_le_bytes w bytes < limit
   pub fits : (n : ℕ) → IsBytes (to_le_bytes w n)
@@ -66,7 +70,8 @@ wide32 = record {
 }
 
 abbrev number_at : Width → List ℕ → Read ℕ
-number_at w bytes = cond (ltb (length bytes) (byte_len w)) (Err Short) (Ok (from_le_bytes w (take (byte_len w) bytes), drop (byte_len w) bytes))
+number_at w bytes = cond (ltb (length bytes) (byte_len w)) (Err Short)
+    (Ok (from_le_bytes w (take (byte_len w) bytes), drop (byte_len w) bytes))
 
 abbrev pub IsNumber : Width → ℕ → List ℕ → ℕ → Type 0
 IsNumber w limit s n = (n < limit) × (s ≡ to_le_bytes w n)
@@ -76,7 +81,8 @@ guard_ok : {A : Type 0} (b : Bool) (x y : A) → cond b (Err Short) (Ok x) ≡ O
 guard_ok true x y e = absurd cc
 guard_ok false x y e = (refl, cc)
 
-guard_err : {A : Type 0} (b : Bool) (x : A) (e : DecodeFault) → cond b (Err Short) (Ok x) ≡ Err e → (b ≡ true) × (e ≡ Short)
+guard_err : {A : Type 0} (b : Bool) (x : A) (e : DecodeFault) → cond b (Err Short) (Ok x) ≡ Err e
+    → (b ≡ true) × (e ≡ Short)
 guard_err true x e h = (refl, cc)
 guard_err false x e h = absurd cc
 
@@ -85,31 +91,55 @@ IsBytes-zeros zero = tt
 IsBytes-zeros (suc n) = (omega arith, IsBytes-zeros n)
 
 module _ (w : Width) (limit : ℕ) (wide : IsWide w limit) where
-  number_found : (bytes : List ℕ) (n : ℕ) (rest : List ℕ) → IsBytes bytes → number_at w bytes ≡ Ok (n, rest) → (s : List ℕ) × IsNumber w limit s n × (bytes ≡ s ++ rest)
+  number_found : (bytes : List ℕ) (n : ℕ) (rest : List ℕ) → IsBytes bytes → number_at w bytes ≡ Ok (n, rest)
+      → (s : List ℕ) × IsNumber w limit s n × (bytes ≡ s ++ rest)
   number_found bytes n rest fits e =
-      let g = guard_ok (ltb (length bytes) (byte_len w)) (from_le_bytes w (take (byte_len w) bytes), drop (byte_len w) bytes) (n, rest) e in
+      let g = guard_ok (ltb (length bytes) (byte_len w))
+      (from_le_bytes w (take (byte_len w) bytes), drop (byte_len w) bytes) (n, rest) e in
       let long_bytes : byte_len w ≤ length bytes = ltb-false _ _ g.0 in
       let n-is : from_le_bytes w (take (byte_len w) bytes) ≡ n = ap (λ (p : ℕ × List ℕ). p.0) g.1 in
       let rest-is : drop (byte_len w) bytes ≡ rest = ap (λ (p : ℕ × List ℕ). p.1) g.1 in
-      let whole : bytes ≡ take (byte_len w) bytes ++ drop (byte_len w) bytes = sym (take-append-drop (byte_len w) bytes) in
-      let all = bytes_at (take (byte_len w) bytes) (IsBytes-left (take (byte_len w) bytes) (drop (byte_len w) bytes) (subst IsBytes whole fits)) in
-      let back : to_le_bytes w (from_le_bytes w (take (byte_len w) bytes)) ≡ take (byte_len w) bytes = wide.back (take (byte_len w) bytes) (omega (arith, length-take (byte_len w) bytes)) all in
-      (take (byte_len w) bytes, (subst (λ (z : ℕ). z < limit) n-is (wide.below (take (byte_len w) bytes) all), sym back ∙ ap (to_le_bytes w) n-is), whole ∙ ap (λ (z : List ℕ). take (byte_len w) bytes ++ z) rest-is)
+      let whole : bytes ≡ take (byte_len w) bytes ++ drop (byte_len w) bytes =
+      sym (take-append-drop (byte_len w) bytes) in
+      let all = bytes_at (take (byte_len w) bytes)
+      (IsBytes-left (take (byte_len w) bytes) (drop (byte_len w) bytes) (subst IsBytes whole fits)) in
+      let back : to_le_bytes w (from_le_bytes w (take (byte_len w) bytes)) ≡ take (byte_len w) bytes =
+      wide.back (take (byte_len w) bytes) (omega (arith, length-take (byte_len w) bytes)) all in (
+        take (byte_len w) bytes,
+        (
+          subst (λ (z : ℕ). z < limit) n-is (wide.below (take (byte_len w) bytes) all),
+          sym back ∙ ap (to_le_bytes w) n-is,
+        ),
+        whole ∙ ap (λ (z : List ℕ). take (byte_len w) bytes ++ z) rest-is,
+      )
 
-  number_short : (bytes : List ℕ) (e : DecodeFault) → IsBytes bytes → number_at w bytes ≡ Err e → (e ≡ Short) × (more : List ℕ) × (n : ℕ) × IsNumber w limit (bytes ++ more) n
+  number_short : (bytes : List ℕ) (e : DecodeFault) → IsBytes bytes → number_at w bytes ≡ Err e
+      → (e ≡ Short) × (more : List ℕ) × (n : ℕ) × IsNumber w limit (bytes ++ more) n
   number_short bytes e fits h =
-      let g = guard_err (ltb (length bytes) (byte_len w)) (from_le_bytes w (take (byte_len w) bytes), drop (byte_len w) bytes) e h in
+      let g = guard_err (ltb (length bytes) (byte_len w))
+      (from_le_bytes w (take (byte_len w) bytes), drop (byte_len w) bytes) e h in
       let less : length bytes < byte_len w = ltb-true _ _ g.0 in
       let more = replicate (byte_len w - length bytes) 0 in
       let all = bytes_at (bytes ++ more) (IsBytes-append bytes more fits (IsBytes-zeros (byte_len w - length bytes))) in
-      let len : length (bytes ++ more) ≡ byte_len w = omega (arith, length-append bytes more, length-replicate {A = ℕ} (byte_len w - length bytes) 0) in
-      (g.1, more, from_le_bytes w (bytes ++ more), (wide.below (bytes ++ more) all, sym (wide.back (bytes ++ more) len all)))
+      let len : length (bytes ++ more) ≡ byte_len w =
+      omega (arith, length-append bytes more, length-replicate {A = ℕ} (byte_len w - length bytes) 0) in (
+        g.1,
+        more,
+        from_le_bytes w (bytes ++ more),
+        (wide.below (bytes ++ more) all, sym (wide.back (bytes ++ more) len all)),
+      )
 
   exact_number : Exact (IsNumber w limit) (number_at w)
   exact_number = record {
     again = λ s n rest h.
-        let long_bytes : ltb (length (to_le_bytes w n ++ rest)) (byte_len w) ≡ false = le-ltb _ _ (omega (arith, length-append (to_le_bytes w n) rest, wide.len n)) in
-        ap (λ (z : List ℕ). number_at w (z ++ rest)) h.1 ∙ rw (long_bytes, take_at (to_le_bytes w n) rest (byte_len w) (wide.len n), drop_at (to_le_bytes w n) rest (byte_len w) (wide.len n), wide.again n h.0) refl;
+        let long_bytes : ltb (length (to_le_bytes w n ++ rest)) (byte_len w) ≡ false =
+        le-ltb _ _ (omega (arith, length-append (to_le_bytes w n) rest, wide.len n)) in
+        ap (λ (z : List ℕ). number_at w (z ++ rest)) h.1 ∙ rw (
+          long_bytes,
+          take_at (to_le_bytes w n) rest (byte_len w) (wide.len n),
+          drop_at (to_le_bytes w n) rest (byte_len w) (wide.len n),
+          wide.again n h.0,
+        ) refl;
     found = number_found;
     short = number_short;
     some = (to_le_bytes w 0, 0, (wide.some, refl));

@@ -1,5 +1,6 @@
 -- Whole instructions are read exactly, and each fault is the one that is there.
-use Rattle.std.proofs.Common.{◌≡◌, ◌≢◌, ◌⊎◌, inl, inr, ℕ, Bool, true, false, cond, List, [], ◌∷◌, ◌++◌, Result, Ok, Err, refl, sym, ap, subst, ◌∙◌, append_assoc}
+use Rattle.std.proofs.Common.{◌≡◌, ◌≢◌, ◌⊎◌, inl, inr, ℕ, Bool, true, false, cond, List, [], ◌∷◌, ◌++◌, Result, Ok, Err}
+use Rattle.std.proofs.Common.{refl, sym, ap, subst, ◌∙◌, append_assoc}
 use Rattle.std.specs.Prelude.{◌==◌, IsTrue}
 use Rattle.std.proofs.lemmas.Bool.{eqb-true, eqb-false}
 use Rattle.std.proofs.lemmas.List.{append-nil}
@@ -33,7 +34,9 @@ insn_plain : (b : ℕ) (bytes : List ℕ) → b ≢ 0xF0 → insn_at (b ∷ byte
 unfolding insn_at
 insn_plain b bytes ne = go (b == 0xF0) refl
   where
-    go : (t : Bool) → (b == 0xF0) ≡ t → cond t (op_at bytes >>= lock_at) (op_at (b ∷ bytes) >>= given plain_insn) ≡ (op_at (b ∷ bytes) >>= given plain_insn)
+    go : (t : Bool) → (b == 0xF0) ≡ t
+        → cond t (op_at bytes >>= lock_at) (op_at (b ∷ bytes) >>= given plain_insn)
+        ≡ (op_at (b ∷ bytes) >>= given plain_insn)
     go true e = absurd (ne (eqb-true _ _ e))
     go false e = refl
 
@@ -58,14 +61,16 @@ lock_ok i rest h = go (lockable i) refl h
 lock_not : (i : Op) (rest : List ℕ) → lockable i ≡ false → lock_at (i, rest) ≡ Err LockNotAllowed
 lock_not i rest h = rw h refl
 
-lock_found : (i : Op) (rest : List ℕ) (p : Insn × List ℕ) → lock_at (i, rest) ≡ Ok p → IsTrue (lockable i) × (p ≡ (locked_insn i, rest))
+lock_found : (i : Op) (rest : List ℕ) (p : Insn × List ℕ) → lock_at (i, rest) ≡ Ok p
+    → IsTrue (lockable i) × (p ≡ (locked_insn i, rest))
 lock_found i rest p h = go (lockable i) refl h
   where
     go : (t : Bool) → lockable i ≡ t → locked_or t i rest ≡ Ok p → IsTrue t × (p ≡ (locked_insn i, rest))
     go true e h = (refl, sym (ok_is (locked_insn i, rest) p h))
     go false e h = absurd (cc h)
 
-lock_err : (i : Op) (rest : List ℕ) (e : DecodeFault) → lock_at (i, rest) ≡ Err e → (e ≡ LockNotAllowed) × (lockable i ≡ false)
+lock_err : (i : Op) (rest : List ℕ) (e : DecodeFault) → lock_at (i, rest) ≡ Err e
+    → (e ≡ LockNotAllowed) × (lockable i ≡ false)
 lock_err i rest e h = go (lockable i) refl h
   where
     go : (t : Bool) → lockable i ≡ t → locked_or t i rest ≡ Err e → (e ≡ LockNotAllowed) × (t ≡ false)
@@ -88,16 +93,21 @@ insn_again (locked {bytes = s} {i = i} h l) rest =
 abbrev Found : List ℕ → Insn → List ℕ → Type 0
 Found bytes i rest = (s : List ℕ) × Spells s i × (bytes ≡ s ++ rest)
 
-found_f0 : (bytes : List ℕ) (i : Insn) (rest : List ℕ) → IsBytes bytes → insn_at (0xF0 ∷ bytes) ≡ Ok (i, rest) → Found (0xF0 ∷ bytes) i rest
+found_f0 : (bytes : List ℕ) (i : Insn) (rest : List ℕ) → IsBytes bytes → insn_at (0xF0 ∷ bytes) ≡ Ok (i, rest)
+    → Found (0xF0 ∷ bytes) i rest
 found_f0 bytes i rest fits e =
     let k = bind_ok (op_at bytes) lock_at (i, rest) (sym (insn_f0 bytes) ∙ e) in
     let f = reads_op.found bytes k.0.0 k.0.1 fits k.1 in
     let l = lock_found k.0.0 k.0.1 (i, rest) k.2 in
     let i-is : i ≡ locked_insn k.0.0 = ap (λ (p : Insn × List ℕ). p.0) l.1 in
-    let rest-is : rest ≡ k.0.1 = ap (λ (p : Insn × List ℕ). p.1) l.1 in
-    (0xF0 ∷ f.0, subst (λ (z : Insn). Spells (0xF0 ∷ f.0) z) (sym i-is) (locked f.1 l.0), ap (λ (z : List ℕ). 0xF0 ∷ z) (f.2 ∙ ap (λ (z : List ℕ). f.0 ++ z) (sym rest-is)))
+    let rest-is : rest ≡ k.0.1 = ap (λ (p : Insn × List ℕ). p.1) l.1 in (
+      0xF0 ∷ f.0,
+      subst (λ (z : Insn). Spells (0xF0 ∷ f.0) z) (sym i-is) (locked f.1 l.0),
+      ap (λ (z : List ℕ). 0xF0 ∷ z) (f.2 ∙ ap (λ (z : List ℕ). f.0 ++ z) (sym rest-is)),
+    )
 
-found_plain : (b : ℕ) (bytes : List ℕ) (i : Insn) (rest : List ℕ) → b ≢ 0xF0 → IsBytes (b ∷ bytes) → insn_at (b ∷ bytes) ≡ Ok (i, rest) → Found (b ∷ bytes) i rest
+found_plain : (b : ℕ) (bytes : List ℕ) (i : Insn) (rest : List ℕ) → b ≢ 0xF0 → IsBytes (b ∷ bytes)
+    → insn_at (b ∷ bytes) ≡ Ok (i, rest) → Found (b ∷ bytes) i rest
 found_plain b bytes i rest ne fits e =
     let k = bind_ok (op_at (b ∷ bytes)) (given plain_insn) (i, rest) (sym (insn_plain b bytes ne) ∙ e) in
     let f = reads_op.found (b ∷ bytes) k.0.0 k.0.1 fits k.1 in
@@ -106,11 +116,13 @@ found_plain b bytes i rest ne fits e =
     let rest-is : k.0.1 ≡ rest = ap (λ (p : Insn × List ℕ). p.1) l in
     (f.0, subst (λ (z : Insn). Spells f.0 z) (sym i-is) (unlocked f.1), f.2 ∙ ap (λ (z : List ℕ). f.0 ++ z) rest-is)
 
-pub insn_found : (bytes : List ℕ) (i : Insn) (rest : List ℕ) → IsBytes bytes → insn_at bytes ≡ Ok (i, rest) → Found bytes i rest
+pub insn_found : (bytes : List ℕ) (i : Insn) (rest : List ℕ) → IsBytes bytes → insn_at bytes ≡ Ok (i, rest)
+    → Found bytes i rest
 insn_found [] i rest fits e = absurd (cc (e, insn_none))
 insn_found (b ∷ bytes) i rest fits e =
     elim (is_f0 b) [
-      | inl is ↦ subst (λ (z : ℕ). Found (z ∷ bytes) i rest) (sym is) (found_f0 bytes i rest fits.1 (subst (λ (z : ℕ). insn_at (z ∷ bytes) ≡ Ok (i, rest)) is e))
+      | inl is ↦ subst (λ (z : ℕ). Found (z ∷ bytes) i rest) (sym is)
+          (found_f0 bytes i rest fits.1 (subst (λ (z : ℕ). insn_at (z ∷ bytes) ≡ Ok (i, rest)) is e))
       | inr ne ↦ found_plain b bytes i rest ne fits e
     ]
 
@@ -123,29 +135,37 @@ err_is : {A : Type 0} (d e : DecodeFault) → fault_of {A = A} d ≡ fault_of e 
 unfolding fault_of
 err_is d e h = cc
 
-stays_f0 : (bytes : List ℕ) (e : DecodeFault) (more : List ℕ) → IsBytes bytes → e ≢ Short → (z : Read Op) → op_at bytes ≡ z → (z >>= lock_at) ≡ Err e → insn_at (0xF0 ∷ (bytes ++ more)) ≡ Err e
+stays_f0 : (bytes : List ℕ) (e : DecodeFault) (more : List ℕ) → IsBytes bytes → e ≢ Short
+    → (z : Read Op) → op_at bytes ≡ z → (z >>= lock_at) ≡ Err e → insn_at (0xF0 ∷ (bytes ++ more)) ≡ Err e
 stays_f0 bytes e more fits ne (Err d) was h =
     let same : d ≡ e = cc h in
     let o = reads_op.other bytes d fits was (λ q. ne (sym same ∙ q)) in
-    insn_f0 (bytes ++ more) ∙ ap (λ (z : Read Op). z >>= lock_at) (o.1 more) ∙ ap (λ (d : DecodeFault). Err d) (sym o.0 ∙ same)
+    insn_f0 (bytes ++ more) ∙ ap (λ (z : Read Op). z >>= lock_at) (o.1 more)
+    ∙ ap (λ (d : DecodeFault). Err d) (sym o.0 ∙ same)
 stays_f0 bytes e more fits ne (Ok p) was h =
     let f = reads_op.found bytes p.0 p.1 fits was in
     let l = lock_err p.0 p.1 e h in
     let whole : bytes ++ more ≡ f.0 ++ (p.1 ++ more) = ap (λ (z : List ℕ). z ++ more) f.2 ∙ append_assoc f.0 p.1 more in
-    insn_f0 (bytes ++ more) ∙ ap (λ (z : List ℕ). op_at z >>= lock_at) whole ∙ ap (λ (z : Read Op). z >>= lock_at) (reads_op.again f.0 p.0 (p.1 ++ more) f.1) ∙ lock_not p.0 (p.1 ++ more) l.1 ∙ ap (λ (d : DecodeFault). Err d) (sym l.0)
+    insn_f0 (bytes ++ more) ∙ ap (λ (z : List ℕ). op_at z >>= lock_at) whole
+    ∙ ap (λ (z : Read Op). z >>= lock_at) (reads_op.again f.0 p.0 (p.1 ++ more) f.1) ∙ lock_not p.0 (p.1 ++ more) l.1
+    ∙ ap (λ (d : DecodeFault). Err d) (sym l.0)
 
-stays_plain : (b : ℕ) (bytes : List ℕ) (e : DecodeFault) (more : List ℕ) → b ≢ 0xF0 → IsBytes (b ∷ bytes) → e ≢ Short → (z : Read Op) → op_at (b ∷ bytes) ≡ z → (z >>= given plain_insn) ≡ Err e → insn_at (b ∷ (bytes ++ more)) ≡ Err e
+stays_plain : (b : ℕ) (bytes : List ℕ) (e : DecodeFault) (more : List ℕ) → b ≢ 0xF0 → IsBytes (b ∷ bytes) → e ≢ Short
+    → (z : Read Op) → op_at (b ∷ bytes) ≡ z → (z >>= given plain_insn) ≡ Err e → insn_at (b ∷ (bytes ++ more)) ≡ Err e
 stays_plain b bytes e more n fits ne (Err d) was h =
     let same : d ≡ e = cc h in
     let o = reads_op.other (b ∷ bytes) d fits was (λ q. ne (sym same ∙ q)) in
-    insn_plain b (bytes ++ more) n ∙ ap (λ (z : Read Op). z >>= given plain_insn) (o.1 more) ∙ ap (λ (d : DecodeFault). Err d) (sym o.0 ∙ same)
+    insn_plain b (bytes ++ more) n ∙ ap (λ (z : Read Op). z >>= given plain_insn) (o.1 more)
+    ∙ ap (λ (d : DecodeFault). Err d) (sym o.0 ∙ same)
 stays_plain b bytes e more n fits ne (Ok p) was h = absurd (cc h)
 
-pub insn_stays : (bytes : List ℕ) (e : DecodeFault) (more : List ℕ) → IsBytes bytes → e ≢ Short → insn_at bytes ≡ Err e → insn_at (bytes ++ more) ≡ Err e
+pub insn_stays : (bytes : List ℕ) (e : DecodeFault) (more : List ℕ) → IsBytes bytes → e ≢ Short → insn_at bytes ≡ Err e
+    → insn_at (bytes ++ more) ≡ Err e
 insn_stays [] e more fits ne h = absurd (ne (cc (h, insn_none)))
 insn_stays (b ∷ bytes) e more fits ne h =
     elim (is_f0 b) [
-      | inl is ↦ subst (λ (z : ℕ). insn_at (z ∷ (bytes ++ more)) ≡ Err e) (sym is) (stays_f0 bytes e more fits.1 ne (op_at bytes) refl (sym (insn_f0 bytes) ∙ ap (λ (z : ℕ). insn_at (z ∷ bytes)) (sym is) ∙ h))
+      | inl is ↦ subst (λ (z : ℕ). insn_at (z ∷ (bytes ++ more)) ≡ Err e) (sym is) (stays_f0 bytes e more fits.1 ne
+          (op_at bytes) refl (sym (insn_f0 bytes) ∙ ap (λ (z : ℕ). insn_at (z ∷ bytes)) (sym is) ∙ h))
       | inr n ↦ stays_plain b bytes e more n fits ne (op_at (b ∷ bytes)) refl (sym (insn_plain b bytes n) ∙ h)
     ]
 
@@ -173,41 +193,54 @@ module _ (bytes : List ℕ) (x : ℕ) (more : List ℕ) (fits : IsBytes bytes) w
   front_go : (i : Insn) → Spells (bytes ++ x ∷ more) i → (z : Read Insn) → insn_at bytes ≡ z → insn_at bytes ≡ Err Short
   front_go i h (Ok p) was =
       let f = insn_found bytes p.0 p.1 fits was in
-      let whole : bytes ++ x ∷ more ≡ f.0 ++ (p.1 ++ x ∷ more) = ap (λ (z : List ℕ). z ++ x ∷ more) f.2 ∙ append_assoc f.0 p.1 (x ∷ more) in
-      let both : insn_at (bytes ++ x ∷ more) ≡ Ok (p.0, p.1 ++ x ∷ more) = ap insn_at whole ∙ insn_again f.1 (p.1 ++ x ∷ more) in
+      let whole : bytes ++ x ∷ more ≡ f.0 ++ (p.1 ++ x ∷ more) =
+      ap (λ (z : List ℕ). z ++ x ∷ more) f.2 ∙ append_assoc f.0 p.1 (x ∷ more) in
+      let both : insn_at (bytes ++ x ∷ more) ≡ Ok (p.0, p.1 ++ x ∷ more) =
+      ap insn_at whole ∙ insn_again f.1 (p.1 ++ x ∷ more) in
       let same = ok_is (p.0, p.1 ++ x ∷ more) (i, []) (sym both ∙ whole_again h) in
       absurd (not_nil p.1 x more (ap (λ (q : Insn × List ℕ). q.1) same))
   front_go i h (Err e) was =
       elim (not_short e) [
         | inl is ↦ was ∙ ap (λ (d : DecodeFault). Err d) is
-        | inr ne ↦ absurd (ok_not_err (insn_at (bytes ++ x ∷ more)) (i, []) e (whole_again h) (insn_stays bytes e (x ∷ more) fits ne was))
+        | inr ne ↦ absurd (ok_not_err (insn_at (bytes ++ x ∷ more)) (
+          i,
+          [],
+        ) e (whole_again h) (insn_stays bytes e (x ∷ more) fits ne was))
       ]
 
   op_front_go : (i : Op) → SpellsOp (bytes ++ x ∷ more) i → (z : Read Op) → op_at bytes ≡ z → op_at bytes ≡ Err Short
   op_front_go i h (Ok p) was =
       let f = reads_op.found bytes p.0 p.1 fits was in
-      let whole : bytes ++ x ∷ more ≡ f.0 ++ (p.1 ++ x ∷ more) = ap (λ (z : List ℕ). z ++ x ∷ more) f.2 ∙ append_assoc f.0 p.1 (x ∷ more) in
-      let both : op_at (bytes ++ x ∷ more) ≡ Ok (p.0, p.1 ++ x ∷ more) = ap op_at whole ∙ reads_op.again f.0 p.0 (p.1 ++ x ∷ more) f.1 in
+      let whole : bytes ++ x ∷ more ≡ f.0 ++ (p.1 ++ x ∷ more) =
+      ap (λ (z : List ℕ). z ++ x ∷ more) f.2 ∙ append_assoc f.0 p.1 (x ∷ more) in
+      let both : op_at (bytes ++ x ∷ more) ≡ Ok (p.0, p.1 ++ x ∷ more) =
+      ap op_at whole ∙ reads_op.again f.0 p.0 (p.1 ++ x ∷ more) f.1 in
       let same = ok_is (p.0, p.1 ++ x ∷ more) (i, []) (sym both ∙ op_whole h) in
       absurd (not_nil p.1 x more (ap (λ (q : Op × List ℕ). q.1) same))
   op_front_go i h (Err e) was =
       elim (not_short e) [
         | inl is ↦ was ∙ ap (λ (d : DecodeFault). Err d) is
-        | inr ne ↦ absurd (ok_not_err (op_at (bytes ++ x ∷ more)) (i, []) NotInSubset (op_whole h) ((reads_op.other bytes e fits was ne).1 (x ∷ more)))
+        | inr ne ↦ absurd (ok_not_err (op_at (bytes ++ x ∷ more)) (
+          i,
+          [],
+        ) NotInSubset (op_whole h) ((reads_op.other bytes e fits was ne).1 (x ∷ more)))
       ]
 
 pub is_short : (bytes : List ℕ) → IsBytes bytes → IsShort bytes → insn_at bytes ≡ Err Short
 is_short bytes fits (inl h) = front_go bytes h.0 h.1 fits h.2 h.3 (insn_at bytes) refl
 is_short bytes fits (inr h) =
     let fits2 : IsBytes (0xF0 ∷ h.0) = subst IsBytes h.4 fits in
-    ap insn_at h.4 ∙ insn_f0 h.0 ∙ ap (λ (z : Read Op). z >>= lock_at) (op_front_go h.0 h.1 h.2 fits2.1 h.3 h.5 (op_at h.0) refl)
+    ap insn_at h.4 ∙ insn_f0 h.0
+    ∙ ap (λ (z : Read Op). z >>= lock_at) (op_front_go h.0 h.1 h.2 fits2.1 h.3 h.5 (op_at h.0) refl)
 
 -- what is missing is not nothing
-op_missing : (bytes : List ℕ) → op_at bytes ≡ Err Short → (more : List ℕ) (i : Op) → SpellsOp (bytes ++ more) i → (x : ℕ) × (rest : List ℕ) × SpellsOp (bytes ++ x ∷ rest) i
+op_missing : (bytes : List ℕ) → op_at bytes ≡ Err Short → (more : List ℕ) (i : Op) → SpellsOp (bytes ++ more) i
+    → (x : ℕ) × (rest : List ℕ) × SpellsOp (bytes ++ x ∷ rest) i
 op_missing bytes e [] i h = absurd (ok_not_err (op_at bytes) (i, []) Short (op_whole (rw append-nil at h)) e)
 op_missing bytes e (x ∷ rest) i h = (x, rest, h)
 
-short_f0 : (bytes : List ℕ) → IsBytes bytes → (z : Read Op) → op_at bytes ≡ z → (z >>= lock_at) ≡ Err Short → IsLockedFront (0xF0 ∷ bytes)
+short_f0 : (bytes : List ℕ) → IsBytes bytes → (z : Read Op) → op_at bytes ≡ z → (z >>= lock_at) ≡ Err Short
+    → IsLockedFront (0xF0 ∷ bytes)
 short_f0 bytes fits (Err d) was h =
     let no : op_at bytes ≡ Err Short = was ∙ cc h in
     let f = reads_op.short bytes fits no in
@@ -215,7 +248,8 @@ short_f0 bytes fits (Err d) was h =
     (bytes, m.0, m.1, f.1, refl, m.2)
 short_f0 bytes fits (Ok p) was h = absurd (cc (lock_err p.0 p.1 Short h).0)
 
-short_plain : (b : ℕ) (bytes : List ℕ) → IsBytes (b ∷ bytes) → (z : Read Op) → op_at (b ∷ bytes) ≡ z → (z >>= given plain_insn) ≡ Err Short → IsFront (b ∷ bytes)
+short_plain : (b : ℕ) (bytes : List ℕ) → IsBytes (b ∷ bytes) → (z : Read Op) → op_at (b ∷ bytes) ≡ z
+    → (z >>= given plain_insn) ≡ Err Short → IsFront (b ∷ bytes)
 short_plain b bytes fits (Err d) was h =
     let no : op_at (b ∷ bytes) ≡ Err Short = was ∙ cc h in
     let f = reads_op.short (b ∷ bytes) fits no in
@@ -227,19 +261,22 @@ pub short_is : (bytes : List ℕ) → IsBytes bytes → insn_at bytes ≡ Err Sh
 short_is [] fits h = inl (0x90, [], plain_insn op.Nop, unlocked op_nop)
 short_is (b ∷ bytes) fits h =
     elim (is_f0 b) [
-      | inl is ↦ inr (subst (λ (z : ℕ). IsLockedFront (z ∷ bytes)) (sym is) (short_f0 bytes fits.1 (op_at bytes) refl (sym (insn_f0 bytes) ∙ ap (λ (z : ℕ). insn_at (z ∷ bytes)) (sym is) ∙ h)))
+      | inl is ↦ inr (subst (λ (z : ℕ). IsLockedFront (z ∷ bytes)) (sym is) (short_f0 bytes fits.1 (op_at bytes) refl
+          (sym (insn_f0 bytes) ∙ ap (λ (z : ℕ). insn_at (z ∷ bytes)) (sym is) ∙ h)))
       | inr n ↦ inl (short_plain b bytes fits (op_at (b ∷ bytes)) refl (sym (insn_plain b bytes n) ∙ h))
     ]
 
 -- ---- LockNotAllowed is for F0 in front of an instruction that is not lockable
 
 pub is_lock_fault : (bytes : List ℕ) → IsLockFault bytes → insn_at bytes ≡ Err LockNotAllowed
-is_lock_fault bytes h = ap insn_at h.5 ∙ insn_f0 (h.0 ++ h.1) ∙ ap (λ (z : Read Op). z >>= lock_at) (reads_op.again h.0 h.2 h.1 h.3) ∙ lock_not h.2 h.1 h.4
+is_lock_fault bytes h = ap insn_at h.5 ∙ insn_f0 (h.0 ++ h.1)
+    ∙ ap (λ (z : Read Op). z >>= lock_at) (reads_op.again h.0 h.2 h.1 h.3) ∙ lock_not h.2 h.1 h.4
 
 lock_never : {A : Type 0} (e : DecodeFault) → e ≡ LockNotAllowed → e ≡ NotInSubset → A
 lock_never e p q = absurd cc
 
-lock_f0 : (bytes : List ℕ) → IsBytes bytes → (z : Read Op) → op_at bytes ≡ z → (z >>= lock_at) ≡ Err LockNotAllowed → IsLockFault (0xF0 ∷ bytes)
+lock_f0 : (bytes : List ℕ) → IsBytes bytes → (z : Read Op) → op_at bytes ≡ z → (z >>= lock_at) ≡ Err LockNotAllowed
+    → IsLockFault (0xF0 ∷ bytes)
 lock_f0 bytes fits (Err d) was h =
     let is : d ≡ LockNotAllowed = cc h in
     lock_never d is (reads_op.other bytes d fits was (λ q. cc (q, is))).0
@@ -247,7 +284,8 @@ lock_f0 bytes fits (Ok p) was h =
     let f = reads_op.found bytes p.0 p.1 fits was in
     (f.0, p.1, p.0, f.1, (lock_err p.0 p.1 LockNotAllowed h).1, ap (λ (z : List ℕ). 0xF0 ∷ z) f.2)
 
-lock_plain : {A : Type 0} (b : ℕ) (bytes : List ℕ) → IsBytes (b ∷ bytes) → (z : Read Op) → op_at (b ∷ bytes) ≡ z → (z >>= given plain_insn) ≡ Err LockNotAllowed → A
+lock_plain : {A : Type 0} (b : ℕ) (bytes : List ℕ) → IsBytes (b ∷ bytes) → (z : Read Op) → op_at (b ∷ bytes) ≡ z
+    → (z >>= given plain_insn) ≡ Err LockNotAllowed → A
 lock_plain b bytes fits (Err d) was h =
     let is : d ≡ LockNotAllowed = cc h in
     lock_never d is (reads_op.other (b ∷ bytes) d fits was (λ q. cc (q, is))).0
@@ -257,7 +295,8 @@ pub lock_fault_is : (bytes : List ℕ) → IsBytes bytes → insn_at bytes ≡ E
 lock_fault_is [] fits h = absurd (cc (h, insn_none))
 lock_fault_is (b ∷ bytes) fits h =
     elim (is_f0 b) [
-      | inl is ↦ subst (λ (z : ℕ). IsLockFault (z ∷ bytes)) (sym is) (lock_f0 bytes fits.1 (op_at bytes) refl (sym (insn_f0 bytes) ∙ ap (λ (z : ℕ). insn_at (z ∷ bytes)) (sym is) ∙ h))
+      | inl is ↦ subst (λ (z : ℕ). IsLockFault (z ∷ bytes)) (sym is) (lock_f0 bytes fits.1 (op_at bytes) refl
+          (sym (insn_f0 bytes) ∙ ap (λ (z : ℕ). insn_at (z ∷ bytes)) (sym is) ∙ h))
       | inr n ↦ lock_plain b bytes fits (op_at (b ∷ bytes)) refl (sym (insn_plain b bytes n) ∙ h)
     ]
 

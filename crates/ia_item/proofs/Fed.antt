@@ -19,4 +19,5 @@ apart m n h = by_test (same_name m n) refl
   where
     by_test : (b : Bool) → same_name m n ≡ b → same_name m n ≡ false
     by_test false e = e
-    by_test true e = absurd (h (m.digested ∙ ap name_digest ((bytes_decides (whole_name m) (whole_name n)).0 e) ∙ sym n.digested))
+    by_test true e =
+        absurd (h (m.digested ∙ ap name_digest ((bytes_decides (whole_name m) (whole_name n)).0 e) ∙ sym n.digested))

@@ -55,7 +55,8 @@ impl<'a, T: Taker<'a>> Walk<'a> for Placer<T> {
 
     ghost goes_on = { λ a b c es fs x y. (
       after_both (layout_state a.walk) (layout_state b.walk) (layout_state c.walk) es fs x.0 y.0,
-      taken_both T.Taken T.goes_on a.taker b.taker c.taker (layout_state a.walk) (layout_state b.walk) es fs x.0 x.1 y.1,
+      taken_both T.Taken T.goes_on a.taker b.taker c.taker (layout_state a.walk) (layout_state b.walk)
+          es fs x.0 x.1 y.1,
     ) };
 
     fn go_over(&mut self, entries: &[Entry<'a>]) -> Result<(), AllocError> {

@@ -1,5 +1,6 @@
 -- The front of a line of one word.
-use Rattle.std.proofs.Common.{◌≡◌, ℕ, ◌+◌, ◌≤◌, false, List, [], ◌∷◌, Option, Some, None, refl, sym, ◌∙◌, ap, drop, length}
+use Rattle.std.proofs.Common.{◌≡◌, ℕ, ◌+◌, ◌≤◌, false, List, [], ◌∷◌, Option, Some, None, refl, sym, ◌∙◌, ap, drop}
+use Rattle.std.proofs.Common.{length}
 use Rattle.std.specs.Prelude.{if◌then◌else◌}
 use Rattle.std.proofs.lemmas.List.{drop-drop, drop_all}
 use Rattle.ia_lex.specs.Alone.{is_bare, is_blank_front, only_word}
@@ -7,7 +8,8 @@ use Rattle.ia_lex.specs.Tokens.{Lexeme, Word, Bad, Blank, One, front, tokens_fro
 use Rattle.ia_lex.proofs.Skips.{front_nil, read_bad, read_blank, read_one}
 
 -- one more blank
-pub blank_more : (i : ℕ) (line : List ℕ) → front (drop i line) ≡ Blank → tokens_from 0 (drop (i + 1) line) ≡ tokens_from 0 (drop i line)
+pub blank_more : (i : ℕ) (line : List ℕ) → front (drop i line) ≡ Blank
+    → tokens_from 0 (drop (i + 1) line) ≡ tokens_from 0 (drop i line)
 blank_more i line e = ap (tokens_from 0) (sym (drop-drop 1 i line)) ∙ sym (read_blank (drop i line) e)
 
 -- at the end there is no blank
@@ -18,7 +20,8 @@ blanks_end i line h = ap (λ l. is_blank_front (front l)) (drop_all i line h) �
 pub bare_bad : (bs : List ℕ) → front bs ≡ Bad → is_bare (tokens_from 0 bs) ≡ false
 bare_bad bs e = ap is_bare (read_bad bs e)
 
-only_behind : (w : List ℕ) (r : Option (List Lexeme)) → only_word (with_front (Word w ∷ []) r) ≡ (if is_bare r then Some w else None)
+only_behind : (w : List ℕ) (r : Option (List Lexeme))
+    → only_word (with_front (Word w ∷ []) r) ≡ (if is_bare r then Some w else None)
 only_behind w None = refl
 only_behind w (Some []) = refl
 only_behind w (Some (t ∷ ts)) = refl

@@ -5,8 +5,8 @@
 //! each a number or a symbol (`Atom`), whose value is a whole number.
 //!
 //! Promised: `first_line` gives the lines of a text one by one, `tokens` exactly the tokens of a line or that something
-//! in it is no token, `only_word` the word that is a line's only token, and `expression`, `word_number` and `register_of`
-//! what their tokens and words say.
+//! in it is no token, `only_word` the word that is a line's only token, and `expression`, `word_number` and
+//! `register_of` what their tokens and words say.
 //!
 //! It stands on `ia_word` for the widths of registers.
 #![tactic(auto)]

@@ -18,7 +18,8 @@ pub one_opcode : (layout : Layout) (first now next : Registers) (program rest be
     → opcode_at layout.opcode_base rest ≡ Some (opcode, behind) → next ≡ after layout opcode now
     → ComesFirst layout first program next behind (done ++ rows_of layout opcode now)
 one_opcode layout first now next program rest behind opcode done front found moved more runs =
-    subst (λ (rows : List Row). Runs layout first program rows) (sym (append_assoc done (rows_of layout opcode now) more))
+    subst (λ (rows : List Row). Runs layout first program rows)
+    (sym (append_assoc done (rows_of layout opcode now) more))
     (front (rows_of layout opcode now ++ more)
     (step found (subst (λ (r : Registers). Runs layout r behind more) moved runs)))
 

@@ -6,7 +6,8 @@ use Rattle.ia_lines.specs.declared.layout.Layout.{Layout}
 use Rattle.ia_lines.specs.declared.machine.Registers.{Registers}
 use Rattle.ia_lines.specs.declared.lines.Row.{Row}
 use Rattle.ia_lines.specs.declared.opcodes.Opcode.{Opcode}
-use Rattle.ia_lines.specs.declared.opcodes.Opcode.TheVariants.{Special, Copy, AdvancePc, AdvanceLine, SetFile, ConstAddPc}
+use Rattle.ia_lines.specs.declared.opcodes.Opcode.TheVariants.{Special, Copy, AdvancePc, AdvanceLine, SetFile}
+use Rattle.ia_lines.specs.declared.opcodes.Opcode.TheVariants.{ConstAddPc}
 use Rattle.ia_lines.specs.declared.opcodes.Opcode.TheVariants.{FixedAdvancePc, EndSequence, SetAddress, Other}
 
 -- a sum modulo 2^32

@@ -4,7 +4,8 @@ use Rattle.std.specs.Prelude.{ℕ, ◌-◌, ◌==◌, List, length, Option, Some
 use Rattle.std.specs.Prelude.{if◌then◌else◌, nat_le}
 use Rattle.ia_lines.specs.Cursor.{◌>>=◌, Read, byte_at, half_at, word_at, block_at, unsigned_at, signed_at}
 use Rattle.ia_lines.specs.declared.opcodes.Opcode.{Opcode}
-use Rattle.ia_lines.specs.declared.opcodes.Opcode.TheVariants.{Special, Copy, AdvancePc, AdvanceLine, SetFile, ConstAddPc}
+use Rattle.ia_lines.specs.declared.opcodes.Opcode.TheVariants.{Special, Copy, AdvancePc, AdvanceLine, SetFile}
+use Rattle.ia_lines.specs.declared.opcodes.Opcode.TheVariants.{ConstAddPc}
 use Rattle.ia_lines.specs.declared.opcodes.Opcode.TheVariants.{FixedAdvancePc, EndSequence, SetAddress, Other}
 
 -- a standard opcode with a number that this table does not keep (column, ISA)

@@ -8,10 +8,10 @@
 //! Promises that the row of an address is the first of the table that covers it (`specs/Table.antt`); that an opcode is
 //! read, and does to the registers and the table, what the standard says (`specs/Opcodes.antt`, `specs/Machine.antt`);
 //! that a program which is read to its end appends the rows of its run and no others; and that a table has no more rows
-//! than `.debug_line` has bytes. Recursion goes ten deep at most, over the bytes of one number. Tested only: which bytes
-//! are a unit's header and program, and which file a row names. Not done: standard opcodes above 12, which a header may
-//! announce (such a unit gives no lines), columns, discriminators, and more than one operation an instruction (VLIW).
-//! Stands on no other crate of the machine.
+//! than `.debug_line` has bytes. Recursion goes ten deep at most, over the bytes of one number. Tested only: which
+//! bytes are a unit's header and program, and which file a row names. Not done: standard opcodes above 12, which a
+//! header may announce (such a unit gives no lines), columns, discriminators, and more than one operation an
+//! instruction (VLIW). Stands on no other crate of the machine.
 #![tactic(auto)]
 
 mod cursor;

@@ -5,8 +5,8 @@ ghost use Rattle.ia_lines.specs.Table.{Covers, IsFirstCover};
 
 use std::alloc::Global;
 
-/// A row of the table (DWARF version 5, section 6.2.2): the instructions from its address on, up to that of the next row
-/// of its sequence, come from this line.
+/// A row of the table (DWARF version 5, section 6.2.2): the instructions from its address on, up to that of the next
+/// row of its sequence, come from this line.
 #[derive(Clone, Copy, PartialEq, Eq, Debug)]
 pub struct Row {
     /// The address of the first of them.

@@ -32,7 +32,8 @@ fn push_row(rows: &mut Vec<Row>, row: Option<Row>) -> Result<(), AllocError>
 
 /// Appends the rows of a program, one for a byte of it at most. Where it is damaged, those up to the damage.
 pub(crate) fn run(layout: &Layout, program: &[u8], rows: &mut Vec<Row>) -> Result<Ended, AllocError>
-    ensures runs { IfOk result (λ ended. ended ≡ Ended.Whole → (new : List Row) × Runs layout.now initial program.now new
+    ensures runs { IfOk result
+        (λ ended. ended ≡ Ended.Whole → (new : List Row) × Runs layout.now initial program.now new
         × (rows.new.items ≡ rows.old.items ++ new)) }
     ensures few { length rows.new.items ≤ length rows.old.items + length program.now }
 {

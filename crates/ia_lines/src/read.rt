@@ -80,8 +80,8 @@ fn read_unit<'a>(
 
 /// Reads the tables of all units. Damaged units give no lines. Takes memory for at most one row (32 bytes) for a
 /// byte of `.debug_line`, and for at most one name (of up to 255 bytes) for a byte of its headers; the work is in
-/// proportion to the section's bytes, and for a path in another section to at most 4,096 more. [`AllocError`] where there
-/// is no memory for them.
+/// proportion to the section's bytes, and for a path in another section to at most 4,096 more. [`AllocError`] where
+/// there is no memory for them.
 pub fn read_lines(alloc: Global, sections: &Sections<'_>) -> Result<Lines, AllocError>
     ensures few { IfOk result (λ lines. length lines.rows.items ≤ length sections.now.lines.now) }
 {

@@ -1,5 +1,6 @@
 -- Names that have a naming.
-use Rattle.std.proofs.Common.{◌≡◌, ℕ, suc, zero, ◌+◌, ◌<◌, ◌≤◌, Bool, true, false, List, [], ◌∷◌, refl, sym, ◌∙◌, ap, length, get_or, arith}
+use Rattle.std.proofs.Common.{◌≡◌, ℕ, suc, zero, ◌+◌, ◌<◌, ◌≤◌, Bool, true, false, List, [], ◌∷◌, refl, sym, ◌∙◌, ap}
+use Rattle.std.proofs.Common.{length, get_or, arith}
 use Rattle.std.proofs.Props.{props}
 use Rattle.std.proofs.Math.Logic.{∥∥₁_elim}
 use Rattle.std.proofs.lemmas.List.{length-replicate}
@@ -30,7 +31,8 @@ naming_less naming a b f n = record {
   named = λ i h. let x = f i h in n.named i x.0 ∙ x.1;
 }
 
-pub naming_is : (naming : Naming) (names : Names) (s : Symbol) (w : List ℕ) → IsNaming naming names → IsNamed names s w → naming s.number ≡ w
+pub naming_is : (naming : Naming) (names : Names) (s : Symbol) (w : List ℕ) → IsNaming naming names → IsNamed names s w
+    → naming s.number ≡ w
 naming_is naming names s w n k = n.named s.number k.0 ∙ k.1
 
 -- ---- there is one
@@ -40,11 +42,13 @@ below_total [] i h = absurd (omega arith)
 below_total (w ∷ ws) zero h = omega arith
 below_total (w ∷ ws) (suc i) h = let more = below_total ws i (omega arith) in omega (arith, more)
 
-inside : (names : Names) (i : ℕ) → i < length (wholes names.nodes.keys) → naming_of names i ≡ get_or (wholes names.nodes.keys) i []
+inside : (names : Names) (i : ℕ) → i < length (wholes names.nodes.keys)
+    → naming_of names i ≡ get_or (wholes names.nodes.keys) i []
 unfolding naming_of
 inside names i h = let t : nat_lt i (length (wholes names.nodes.keys)) ≡ true = grind arith in rw t refl
 
-outside : (names : Names) (i : ℕ) → length (wholes names.nodes.keys) ≤ i → naming_of names i ≡ replicate (1 + total_length (wholes names.nodes.keys) + i) 0
+outside : (names : Names) (i : ℕ) → length (wholes names.nodes.keys) ≤ i
+    → naming_of names i ≡ replicate (1 + total_length (wholes names.nodes.keys) + i) 0
 unfolding naming_of
 outside names i h = let t : nat_lt i (length (wholes names.nodes.keys)) ≡ false = grind arith in rw t refl
 
@@ -68,7 +72,8 @@ one_to_one names i j e = by (nat_lt i n) (nat_lt j n) refl refl
 
     mixed : (a b : ℕ) → a < n → n ≤ b → naming_of names a ≡ naming_of names b → ⊥
     mixed a b h g f =
-        let same : get_or ws a [] ≡ replicate (1 + total_length ws + b) 0 = sym (inside names a h) ∙ f ∙ outside names b g in
+        let same : get_or ws a [] ≡ replicate (1 + total_length ws + b) 0 =
+        sym (inside names a h) ∙ f ∙ outside names b g in
         let lengths : length (get_or ws a []) ≡ 1 + total_length ws + b = ap (length {A = ℕ}) same ∙ long b in
         let short = below_total ws a h in
         absurd (omega (arith, lengths, short))
@@ -77,12 +82,15 @@ one_to_one names i j e = by (nat_lt i n) (nat_lt j n) refl refl
     same_rest m h = omega (arith, h)
 
     by : (s t : Bool) → nat_lt i n ≡ s → nat_lt j n ≡ t → i ≡ j
-    by true true a b = ∥∥₁_elim names.tree (hlevel props) (λ tree. tree.distinct i j (low i a) (low j b) (sym (inside names i (low i a)) ∙ e ∙ inside names j (low j b)))
+    by true true a b = ∥∥₁_elim names.tree (hlevel props)
+        (λ tree. tree.distinct i j (low i a) (low j b) (sym (inside names i (low i a)) ∙ e ∙ inside names j (low j b)))
     by true false a b = absurd (mixed i j (low i a) (high j b) e)
     by false true a b = absurd (mixed j i (low j b) (high i a) (sym e))
     by false false a b =
-        let same : replicate (1 + total_length ws + i) 0 ≡ replicate (1 + total_length ws + j) 0 = sym (outside names i (high i a)) ∙ e ∙ outside names j (high j b) in
-        let lengths : 1 + total_length ws + i ≡ 1 + total_length ws + j = sym (long i) ∙ ap (length {A = ℕ}) same ∙ long j in
+        let same : replicate (1 + total_length ws + i) 0 ≡ replicate (1 + total_length ws + j) 0 =
+        sym (outside names i (high i a)) ∙ e ∙ outside names j (high j b) in
+        let lengths : 1 + total_length ws + i ≡ 1 + total_length ws + j =
+        sym (long i) ∙ ap (length {A = ℕ}) same ∙ long j in
         same_rest (1 + total_length ws) lengths
 
 pub is_naming : (names : Names) → IsNaming (naming_of names) names

@@ -1,5 +1,6 @@
 -- A name has one last part.
-use Rattle.std.proofs.Common.{◌≡◌, ℕ, ◌<◌, Bool, true, false, not, List, [], ◌∷◌, ◌++◌, refl, sym, ◌∙◌, ap, length, arith}
+use Rattle.std.proofs.Common.{◌≡◌, ℕ, ◌<◌, Bool, true, false, not, List, [], ◌∷◌, ◌++◌, refl, sym, ◌∙◌, ap, length}
+use Rattle.std.proofs.Common.{arith}
 use Rattle.std.specs.Prelude.{◌&&◌, ◌||◌, ◌==◌}
 use Rattle.ia_names.specs.Tries.{has_dot, is_empty, is_part}
 
@@ -34,7 +35,8 @@ dotted x a (y ∷ q) e b = by (y == 46) refl
         absurd cc
 
 -- a part with a dot within is none
-within : (y : ℕ) (b q : List ℕ) (x : ℕ) (p : List ℕ) → is_part [] (x ∷ p) ≡ true → is_part (y ∷ b) q ≡ true → p ≡ b ++ q → ⊥
+within : (y : ℕ) (b q : List ℕ) (x : ℕ) (p : List ℕ) → is_part [] (x ∷ p) ≡ true → is_part (y ∷ b) q ≡ true
+    → p ≡ b ++ q → ⊥
 within y b [] x p e f is = absurd cc
 within y b (z ∷ q) x p e f is =
     let plain : has_dot p ≡ false = negated (has_dot p) (both (not (has_dot p)) ((x == 46) || true) e).0 in

@@ -10,7 +10,8 @@ use indexmap::IndexSet;
 /// The names of a source so far, each by a number, and the label that local labels belong to.
 #[derive(Drop)]
 pub struct Names<'a> {
-    // The parts of the names: the name of number 0 has no letters, and that of number n + 1 ends with the n-th of these.
+    // The parts of the names: the name of number 0 has no letters, and that of number n + 1 ends with the n-th of
+    // these.
     pub(crate) nodes: IndexSet<Node<'a>>,
     // How many parts there may be.
     pub(crate) most: usize,

@@ -1,7 +1,8 @@
 //! The six flags as a set of named bits, and the conditions over them.
 
 ghost use Rattle.std.specs.Prelude.{⊤, Bool, ◌≡◌, [], ◌∷◌, codes};
-ghost use Rattle.ia_regs.specs.Flags.{flags_of, with_carry, with_overflow, condition_holds, has_carry, has_parity, has_adjust, has_zero, has_sign, has_overflow};
+ghost use Rattle.ia_regs.specs.Flags.{flags_of, with_carry, with_overflow, condition_holds, has_carry, has_parity};
+ghost use Rattle.ia_regs.specs.Flags.{has_adjust, has_zero, has_sign, has_overflow};
 
 use bitflags::{Flag, bitflag_items};
 use ia_word::Condition;

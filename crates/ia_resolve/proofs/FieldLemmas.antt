@@ -19,7 +19,8 @@ use Rattle.ia_insn.specs.Writing.{fits_base, fits_index, fits_mem, fits_operand}
 use Rattle.ia_insn.specs.Encoding.{encodable, is_encodable}
 use Rattle.ia_insn.proofs.ByOperands.{by_operands}
 use Rattle.ia_item.specs.declared.item.Field.TheVariants as field
-use Rattle.ia_item.specs.Fields.{field_in, field_or, field_of, number_in, displacement_in, with_disp, with_number, with_displacement, Holds}
+use Rattle.ia_item.specs.Fields.{field_in, field_or, field_of, number_in, displacement_in, with_disp, with_number}
+use Rattle.ia_item.specs.Fields.{with_displacement, Holds}
 
 and2 : (a b : Bool) → a ≡ true → b ≡ true → (a && b) ≡ true
 and2 true true p q = refl
@@ -49,7 +50,8 @@ numbered (argument.Near long d) n = argument.Near long n
 numbered (argument.Short d) n = argument.Short n
 numbered x n = x
 
-numbered_fits : (x : Argument) (n : ℕ) → Holds (field_in x) n → fits_argument x ≡ true → fits_argument (numbered x n) ≡ true
+numbered_fits : (x : Argument) (n : ℕ) → Holds (field_in x) n → fits_argument x ≡ true
+    → fits_argument (numbered x n) ≡ true
 numbered_fits (argument.Source B (Imm x)) n h e = below n 256 h
 numbered_fits (argument.Source D (Imm x)) n h e = below n (2 ^ 32) h
 numbered_fits (argument.Source w (Reg r)) n h e = e
@@ -74,7 +76,8 @@ last_fits : (x y z : Option Argument) (n : ℕ) → Holds (field_or z (field_or 
     → all_fit (record { first = x; second = y; third = z }) ≡ true → all_fit (last_numbered x y z n) ≡ true
 last_fits x y (Some z) n h e =
     let front : Bool = fits_where_there x && fits_where_there y in
-    second front (fits_argument z) (fits_argument (numbered z n)) (numbered_fits z n h (both front (fits_argument z) e).1) e
+    second front (fits_argument z) (fits_argument (numbered z n))
+    (numbered_fits z n h (both front (fits_argument z) e).1) e
 last_fits x (Some y) None n h e =
     let f = both (fits_where_there x && fits_argument y) true e in
     let g = both (fits_where_there x) (fits_argument y) f.0 in
@@ -105,13 +108,15 @@ number_meets (op.Shift k m count.Cl) n = refl
 number_meets _ n = refl
 
 -- by the operands of the one and of the other
-encodable_again : (o p : Op) → (all_fit (operands_of o) ≡ true → all_fit (operands_of p) ≡ true) → may_meet p ≡ may_meet o
+encodable_again : (o p : Op) → (all_fit (operands_of o) ≡ true → all_fit (operands_of p) ≡ true)
+    → may_meet p ≡ may_meet o
     → encodable o ≡ true → encodable p ≡ true
 encodable_again o p fit meet e =
     let f = both (all_fit (operands_of o)) (may_meet o) (sym (by_operands o) ∙ e) in
     by_operands p ∙ and2 (all_fit (operands_of p)) (may_meet p) (fit f.0) (meet ∙ f.1)
 
-pub number_encodable : (o : Op) (n : ℕ) → Holds (field_of o) n → IsTrue (encodable o) → IsTrue (encodable (with_number o n))
+pub number_encodable : (o : Op) (n : ℕ) → Holds (field_of o) n → IsTrue (encodable o)
+    → IsTrue (encodable (with_number o n))
 number_encodable o n h e =
     let x : Arguments = operands_of o in
     encodable_again o (with_number o n)
@@ -131,7 +136,8 @@ number_lockable _ n = refl
 -- ---- displacements
 
 moved_fits : (m : Mem) (d : ℕ) → d < 2 ^ 32 → fits_mem m ≡ true → fits_mem (with_disp m d) ≡ true
-moved_fits m d h e = second (fits_base m.base && fits_index m.index m.scale) (nat_lt m.disp (2 ^ 32)) (nat_lt d (2 ^ 32)) (below d (2 ^ 32) h) e
+moved_fits m d h e = second (fits_base m.base && fits_index m.index m.scale) (nat_lt m.disp (2 ^ 32))
+    (nat_lt d (2 ^ 32)) (below d (2 ^ 32) h) e
 
 operand_fits : (m : Operand) (d : ℕ) → d < 2 ^ 32 → fits_operand m ≡ true → fits_operand (displacement_in m d) ≡ true
 operand_fits (Reg r) d h e = e
@@ -153,7 +159,8 @@ placed_fits (argument.Source w (Imm n)) d h e = e
 placed_fits (argument.Address m) d h e = moved_fits m d h e
 placed_fits _ d h e = e
 
-each_placed : (x : Option Argument) (d : ℕ) → d < 2 ^ 32 → fits_where_there x ≡ true → fits_where_there (option_map (λ y. placed y d) x) ≡ true
+each_placed : (x : Option Argument) (d : ℕ) → d < 2 ^ 32 → fits_where_there x ≡ true
+    → fits_where_there (option_map (λ y. placed y d) x) ≡ true
 each_placed None d h e = e
 each_placed (Some x) d h e = placed_fits x d h e
 
@@ -170,7 +177,8 @@ all_placed_fit x d h e =
     let f = both (fits_where_there x.first && fits_where_there x.second) (fits_where_there x.third) e in
     let g = both (fits_where_there x.first) (fits_where_there x.second) f.0 in
     and2 (fits_where_there y.first && fits_where_there y.second) (fits_where_there y.third)
-    (and2 (fits_where_there y.first) (fits_where_there y.second) (each_placed x.first d h g.0) (each_placed x.second d h g.1))
+    (and2 (fits_where_there y.first) (fits_where_there y.second) (each_placed x.first d h g.0)
+    (each_placed x.second d h g.1))
     (each_placed x.third d h f.1)
 
 place_operands : (o : Op) (d : ℕ) → operands_of (with_displacement o d) ≡ all_placed (operands_of o) d
@@ -182,9 +190,11 @@ same_place (Reg r) d = refl
 same_place (Memory m) d = refl
 same_place (Imm n) d = refl
 
-both_places : (m s : Operand) (d : ℕ) → not (is_place (displacement_in m d) && is_place (displacement_in s d)) ≡ not (is_place m && is_place s)
+both_places : (m s : Operand) (d : ℕ)
+    → not (is_place (displacement_in m d) && is_place (displacement_in s d)) ≡ not (is_place m && is_place s)
 both_places m s d =
-    ap (λ b. not (b && is_place (displacement_in s d))) (same_place m d) ∙ ap (λ b. not (is_place m && b)) (same_place s d)
+    ap (λ b. not (b && is_place (displacement_in s d))) (same_place m d)
+    ∙ ap (λ b. not (is_place m && b)) (same_place s d)
 
 place_meets : (o : Op) (d : ℕ) → may_meet (with_displacement o d) ≡ may_meet o
 place_meets (op.Alu k w m s) d = both_places m s d
@@ -214,7 +224,9 @@ place_lockable _ d = refl
 -- ---- whole instructions
 
 -- another operation that is encodable, and lockable where the first is
-pub insn_encodable : (l : Bool) (o p : Op) → IsTrue (is_encodable (record { lock = l; op = o })) → (IsTrue (encodable o) → IsTrue (encodable p)) → lockable p ≡ lockable o → IsTrue (is_encodable (record { lock = l; op = p }))
+pub insn_encodable : (l : Bool) (o p : Op) → IsTrue (is_encodable (record { lock = l; op = o }))
+    → (IsTrue (encodable o) → IsTrue (encodable p)) → lockable p ≡ lockable o
+    → IsTrue (is_encodable (record { lock = l; op = p }))
 insn_encodable l o p e h same =
     let terms = both (encodable o) (not l || lockable o) e in
     and2 (encodable p) (not l || lockable p) (h terms.0) (ap (λ t. not l || t) same ∙ terms.1)

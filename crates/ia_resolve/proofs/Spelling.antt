@@ -1,5 +1,6 @@
 -- The bytes of an instruction spell it.
-use Rattle.std.proofs.Common.{◌≡◌, ℕ, ◌-◌, ◌^◌, Bool, true, false, cond, Option, Some, None, refl, ◌∙◌, ap, IsTrue, arith}
+use Rattle.std.proofs.Common.{◌≡◌, ℕ, ◌-◌, ◌^◌, Bool, true, false, cond, Option, Some, None, refl, ◌∙◌, ap, IsTrue}
+use Rattle.std.proofs.Common.{arith}
 use Rattle.std.specs.Prelude.{ℤ, pos, negsuc, ◌&&◌, ◌||◌, not, is_some, nat_le}
 use Rattle.std.proofs.lemmas.Bool.{leb-true}
 use Rattle.ia_insn.specs.declared.op.Op.{Op}
@@ -16,7 +17,8 @@ use Rattle.ia_item.specs.Fits.{Fits}
 use Rattle.ia_resolve.specs.declared.place_fault.PlaceFault.TheVariants.{UnknownSymbol, Range}
 use Rattle.ia_resolve.specs.Values.{sum_fault, value_or_zero, total}
 use Rattle.ia_resolve.specs.Items.{field_value, op_with_number, op_with_displacement, resolved_insn, wide, code_bytes}
-use Rattle.ia_resolve.proofs.FieldLemmas.{number_encodable, number_lockable, place_encodable, place_lockable, insn_encodable}
+use Rattle.ia_resolve.proofs.FieldLemmas.{number_encodable, number_lockable, place_encodable, place_lockable}
+use Rattle.ia_resolve.proofs.FieldLemmas.{insn_encodable}
 
 second : (a b : Bool) → (a && b) ≡ true → b ≡ true
 second true b e = e
@@ -41,11 +43,16 @@ held (field.Short l) at v e = by (fits_short d) refl
     by false is = ap (λ t. fits_short (cond t d 0)) is
 
 -- what an expression counts as is in its range
-taken_in : (env : Env) (low high : ℤ) (s : ScopedExpression) → within low high (pos 0) ≡ true → within low high (value_or_zero env low high s) ≡ true
+taken_in : (env : Env) (low high : ℤ) (s : ScopedExpression) → within low high (pos 0) ≡ true
+    → within low high (value_or_zero env low high s) ≡ true
 unfolding value_or_zero sum_fault
-taken_in env low high s zero = by (any_unknown env s.terms.items) (any_huge s.terms.items) (within low high (total env s)) refl
+taken_in env low high s zero =
+    by (any_unknown env s.terms.items) (any_huge s.terms.items) (within low high (total env s)) refl
   where
-    by : (u h w : Bool) → within low high (total env s) ≡ w → within low high (cond (is_some (cond u (Some UnknownSymbol) (cond (h || not w) (Some Range) None))) (pos 0) (total env s)) ≡ true
+    by : (u h w : Bool) → within low high (total env s) ≡ w
+        → within low high
+        (cond (is_some (cond u (Some UnknownSymbol) (cond (h || not w) (Some Range) None))) (pos 0) (total env s))
+        ≡ true
     by true h w e = zero
     by false true w e = zero
     by false false true e = e
@@ -59,21 +66,27 @@ zero_in (field.Near l) = refl
 zero_in (field.Short l) = refl
 
 value_held : (env : Env) (at : ℕ) (f : Field) (s : ScopedExpression) → Holds f (field_value env at f s)
-value_held env at f s = held f at (value_or_zero env (low_of f) (high_of f) s) (taken_in env (low_of f) (high_of f) s (zero_in f))
+value_held env at f s =
+    held f at (value_or_zero env (low_of f) (high_of f) s) (taken_in env (low_of f) (high_of f) s (zero_in f))
 
-number_fits : (env : Env) (at : ℕ) (s : Option ScopedExpression) (o : Op) → IsTrue (encodable o) → IsTrue (encodable (op_with_number env at s o))
+number_fits : (env : Env) (at : ℕ) (s : Option ScopedExpression) (o : Op) → IsTrue (encodable o)
+    → IsTrue (encodable (op_with_number env at s o))
 number_fits env at None o e = e
-number_fits env at (Some s) o e = number_encodable o (field_value env at (field_of o) s) (value_held env at (field_of o) s) e
+number_fits env at (Some s) o e =
+    number_encodable o (field_value env at (field_of o) s) (value_held env at (field_of o) s) e
 
-number_locks : (env : Env) (at : ℕ) (s : Option ScopedExpression) (o : Op) → lockable (op_with_number env at s o) ≡ lockable o
+number_locks : (env : Env) (at : ℕ) (s : Option ScopedExpression) (o : Op)
+    → lockable (op_with_number env at s o) ≡ lockable o
 number_locks env at None o = refl
 number_locks env at (Some s) o = number_lockable o (field_value env at (field_of o) s)
 
-place_fits : (env : Env) (at : ℕ) (s : Option ScopedExpression) (o : Op) → IsTrue (encodable o) → IsTrue (encodable (op_with_displacement env at s o))
+place_fits : (env : Env) (at : ℕ) (s : Option ScopedExpression) (o : Op) → IsTrue (encodable o)
+    → IsTrue (encodable (op_with_displacement env at s o))
 place_fits env at None o e = e
 place_fits env at (Some s) o e = place_encodable o (field_value env at field.Long s) (value_held env at field.Long s) e
 
-place_locks : (env : Env) (at : ℕ) (s : Option ScopedExpression) (o : Op) → lockable (op_with_displacement env at s o) ≡ lockable o
+place_locks : (env : Env) (at : ℕ) (s : Option ScopedExpression) (o : Op)
+    → lockable (op_with_displacement env at s o) ≡ lockable o
 place_locks env at None o = refl
 place_locks env at (Some s) o = place_lockable o (field_value env at field.Long s)
 
@@ -87,4 +100,5 @@ filled_fits env at t fits =
 
 pub code_spelt : (env : Env) (at : ℕ) (t : Template) → Fits t → Spells (code_bytes env at t) (resolved_insn env at t)
 unfolding code_bytes
-code_spelt env at t fits = insn_spelt (wide t.number) (wide t.displacement) (resolved_insn env at t) (filled_fits env at t fits)
+code_spelt env at t fits =
+    insn_spelt (wide t.number) (wide t.displacement) (resolved_insn env at t) (filled_fits env at t fits)

@@ -1,5 +1,6 @@
 -- The head of a printed line is read.
-use Rattle.std.proofs.Common.{◌≡◌, ℕ, Bool, true, false, not, cond, List, [], ◌∷◌, ◌++◌, Some, None, refl, ◌∙◌, ap, codes, is_some}
+use Rattle.std.proofs.Common.{◌≡◌, ℕ, Bool, true, false, not, cond, List, [], ◌∷◌, ◌++◌, Some, None, refl, ◌∙◌, ap}
+use Rattle.std.proofs.Common.{codes, is_some}
 use Rattle.std.specs.Prelude.{◌&&◌}
 use Rattle.ia_word.specs.declared.operation.AluOp.TheVariants as alu
 use Rattle.ia_word.specs.declared.operation.ShiftOp.TheVariants as shift
@@ -42,7 +43,8 @@ known (op.Bit bit.Bt m n) = refl
 known (op.Bare bare.Leave) = refl
 known _ = refl
 
-lock_known : (w : List ℕ) (ts : List Lexeme) → head_of (Word (codes "lock") ∷ Word w ∷ ts) ≡ with_label None (statement_behind_lock (keyword_of w) ts)
+lock_known : (w : List ℕ) (ts : List Lexeme)
+    → head_of (Word (codes "lock") ∷ Word w ∷ ts) ≡ with_label None (statement_behind_lock (keyword_of w) ts)
 unfolding keyword_of mnemonic_named unconditional conditional condition_of order_of
     arithmetic moves jumps bare_names conditions other_names other_conditions
 lock_known w ts = refl
@@ -53,9 +55,11 @@ by_lock : (lock : Bool) (o : Op) (at : ℕ)
 by_lock false o at =
     let w : List ℕ = name_of (mnemonic_of o) in
     let ts : List Lexeme = args_tokens o at in
-    ap (λ k. cond (not (is_some k) && not (is_some (register_of w))) (with_label (Some w) (statement_at (behind_colon ts))) (with_label None (by_keyword k ts))) (known o)
+    ap (λ k. cond (not (is_some k) && not (is_some (register_of w)))
+    (with_label (Some w) (statement_at (behind_colon ts))) (with_label None (by_keyword k ts))) (known o)
 by_lock true o at =
-    lock_known (name_of (mnemonic_of o)) (args_tokens o at) ∙ ap (λ k. with_label None (statement_behind_lock k (args_tokens o at))) (known o)
+    lock_known (name_of (mnemonic_of o)) (args_tokens o at)
+    ∙ ap (λ k. with_label None (statement_behind_lock k (args_tokens o at))) (known o)
 
 pub head_reads_back : HeadReadsBack
 head_reads_back i at = by_lock i.lock i.op at

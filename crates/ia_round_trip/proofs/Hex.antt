@@ -1,5 +1,6 @@
 -- Printed numbers are read again.
-use Rattle.std.proofs.Common.{◌≡◌, ℕ, zero, suc, ◌<◌, Bool, true, false, cond, List, [], ◌∷◌, Some, refl, ◌∙◌, ap, length, map, arith, rules}
+use Rattle.std.proofs.Common.{◌≡◌, ℕ, zero, suc, ◌<◌, Bool, true, false, cond, List, [], ◌∷◌, Some, refl, ◌∙◌, ap}
+use Rattle.std.proofs.Common.{length, map, arith, rules}
 use Rattle.std.specs.Prelude.{◌==◌, codes, nat_lt, ◌&&◌}
 use Rattle.std.proofs.lemmas.Int.Digits.{all_below_base_digits_of}
 use Rattle.std.specs.List.{list_all, AllByRecursion}
@@ -30,7 +31,8 @@ glyph_name (suc (suc (suc (suc (suc (suc (suc (suc (suc (suc (suc (suc zero)))))
 glyph_name (suc (suc (suc (suc (suc (suc (suc (suc (suc (suc (suc (suc (suc zero))))))))))))) h = refl
 glyph_name (suc (suc (suc (suc (suc (suc (suc (suc (suc (suc (suc (suc (suc (suc zero)))))))))))))) h = refl
 glyph_name (suc (suc (suc (suc (suc (suc (suc (suc (suc (suc (suc (suc (suc (suc (suc zero))))))))))))))) h = refl
-glyph_name (suc (suc (suc (suc (suc (suc (suc (suc (suc (suc (suc (suc (suc (suc (suc (suc n)))))))))))))))) h = absurd (omega arith)
+glyph_name (suc (suc (suc (suc (suc (suc (suc (suc (suc (suc (suc (suc (suc (suc (suc (suc n)))))))))))))))) h =
+    absurd (omega arith)
 
 names : (ds : List ℕ) → AllByRecursion (λ d. d < 16) ds → all_by is_name (map digit_char ds) ≡ true
 names [] h = refl
@@ -39,16 +41,20 @@ names (d ∷ ds) h = ap (λ v. cond v (all_by is_name (map digit_char ds)) false
 both : Bool → Bool → Bool → Bool
 both x y z = ((x && true) && true) && (y && z)
 
-prefixed : (ds : List ℕ) (v : ℕ) → 0 < length ds → list_all (λ b. nat_lt (digit_value b) 16) ds ≡ true → digits_value 16 ds ≡ v → number_of (48 ∷ 120 ∷ ds) ≡ Some (small v)
+prefixed : (ds : List ℕ) (v : ℕ) → 0 < length ds → list_all (λ b. nat_lt (digit_value b) 16) ds ≡ true
+    → digits_value 16 ds ≡ v → number_of (48 ∷ 120 ∷ ds) ≡ Some (small v)
 unfolding number_of both
 prefixed ds v h a e =
     let x : nat_lt 2 (length (48 ∷ 120 ∷ ds)) ≡ true = search rules in
     let y : nat_lt 0 (length ds) ≡ true = search rules in
-    let t : both (nat_lt 2 (length (48 ∷ 120 ∷ ds))) (nat_lt 0 (length ds)) (list_all (λ b. nat_lt (digit_value b) 16) ds) ≡ true
+    let t :
+    both (nat_lt 2 (length (48 ∷ 120 ∷ ds))) (nat_lt 0 (length ds)) (list_all (λ b. nat_lt (digit_value b) 16) ds)
+    ≡ true
     = ap (λ b. both b (nat_lt 0 (length ds)) (list_all (λ b. nat_lt (digit_value b) 16) ds)) x
     ∙ ap (λ b. both true b (list_all (λ b. nat_lt (digit_value b) 16) ds)) y
     ∙ ap (λ b. both true true b) a in
-    ap (λ b. cond b (Some (small (digits_value 16 ds))) (cond (all_digits 10 (48 ∷ 120 ∷ ds)) (Some (small (digits_value 10 (48 ∷ 120 ∷ ds)))) (suffixed (48 ∷ 120 ∷ ds)))) t ∙ ap (λ n. Some (small n)) e
+    ap (λ b. cond b (Some (small (digits_value 16 ds))) (cond (all_digits 10 (48 ∷ 120 ∷ ds))
+    (Some (small (digits_value 10 (48 ∷ 120 ∷ ds)))) (suffixed (48 ∷ 120 ∷ ds)))) t ∙ ap (λ n. Some (small n)) e
 
 hex_again : (n : ℕ) → number_of (48 ∷ 120 ∷ hex_digits n) ≡ Some (small n)
 unfolding number_of
@@ -66,4 +72,5 @@ hex_names (suc k) =
     ∙ names (digits_of 16 (suc k)) (all_below_base_digits_of 16 (suc k) (omega arith))
 
 pub open_printed : (n : ℕ) → Open (number n) (Number (small n) ∷ [])
-open_printed n = open_number 48 (120 ∷ hex_digits n) (small n) (record { blank = refl; comment = refl; name = refl; kind = refl }) (hex_names n) (hex_again n)
+open_printed n = open_number 48 (120 ∷ hex_digits n) (small n)
+    (record { blank = refl; comment = refl; name = refl; kind = refl }) (hex_names n) (hex_again n)

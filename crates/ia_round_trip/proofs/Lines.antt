@@ -1,5 +1,6 @@
 -- No line ends within the text of an instruction.
-use Rattle.std.proofs.Common.{◌≡◌, ℕ, Bool, true, false, cond, List, [], ◌∷◌, ◌++◌, Option, Some, None, refl, ◌∙◌, ap, arith, codes, is_some}
+use Rattle.std.proofs.Common.{◌≡◌, ℕ, Bool, true, false, cond, List, [], ◌∷◌, ◌++◌, Option, Some, None, refl, ◌∙◌, ap}
+use Rattle.std.proofs.Common.{arith, codes, is_some}
 use Rattle.std.specs.Prelude.{◌&&◌, ◌||◌, ◌==◌, nat_lt, nat_le}
 use Rattle.std.proofs.lemmas.Bool.{lt-ltb, ltb-true, leb-true, eqb-true, ne_eqb}
 use Rattle.ia_insn.specs.declared.op.Op.{Op}
@@ -16,12 +17,14 @@ use Rattle.text_out.specs.Number.{number}
 use Rattle.ia_insn.specs.Mnemonics.{mnemonic_of, name_of}
 use Rattle.ia_text.specs.Names.{register_name, size_name}
 use Rattle.ia_text.specs.Arguments.{first_arg, second_arg, third_arg}
-use Rattle.ia_text.specs.Text.{plus, base_text, scale_text, index_text, disp_text, mem_text, arg_text, behind, op_text, insn_text}
+use Rattle.ia_text.specs.Text.{plus, base_text, scale_text, index_text, disp_text, mem_text, arg_text, behind, op_text}
+use Rattle.ia_text.specs.Text.{insn_text}
 use Rattle.ia_round_trip.specs.PrintedTokens.{args_tokens}
 use Rattle.ia_round_trip.specs.Lines.{TextIsOneLine}
 use Rattle.ia_round_trip.proofs.TokenLemmas.{all_by}
 use Rattle.ia_round_trip.proofs.Hex.{hex_names}
-use Rattle.ia_round_trip.proofs.PrintedTokens.{so, name_all, register_test, size_test, mnemonic_test, text_has_its_tokens}
+use Rattle.ia_round_trip.proofs.PrintedTokens.{so, name_all, register_test, size_test, mnemonic_test}
+use Rattle.ia_round_trip.proofs.PrintedTokens.{text_has_its_tokens}
 use Rattle.ia_round_trip.proofs.MemoryOperands.{two}
 
 abbrev pub value_modulo : ℕ → Bool
@@ -40,7 +43,8 @@ not_13 b h = ne_eqb b 13 (λ e. absurd (omega (arith, ltb-true 31 b h, e)))
 
 one_byte : (b : ℕ) (bs : List ℕ) → nat_lt 31 b ≡ true → lines_of (b ∷ bs) ≡ onto b (lines_of bs)
 one_byte b bs h =
-    ap (λ x. cond x ([] ∷ lines_of bs) (cond ((b == 13) && begins_with_lf bs) (lines_of bs) (onto b (lines_of bs)))) (not_ten b h)
+    ap (λ x. cond x ([] ∷ lines_of bs) (cond ((b == 13) && begins_with_lf bs) (lines_of bs) (onto b (lines_of bs))))
+    (not_ten b h)
     ∙ ap (λ x. cond (x && begins_with_lf bs) (lines_of bs) (onto b (lines_of bs))) (not_13 b h)
 
 first_shown : (b : ℕ) (bs : List ℕ) → Shown (b ∷ bs) → (nat_lt 31 b ≡ true) × Shown bs
@@ -48,17 +52,20 @@ first_shown b bs h = so (nat_lt 31 b) (all_by value_modulo bs) h
 
 line_end : (b : ℕ) (bs : List ℕ) → Shown (b ∷ bs) → lines_of (b ∷ bs) ≡ (b ∷ bs) ∷ []
 line_end b [] h = one_byte b [] (first_shown b [] h).0
-line_end b (c ∷ bs) h = one_byte b (c ∷ bs) (first_shown b (c ∷ bs) h).0 ∙ ap (onto b) (line_end c bs (first_shown b (c ∷ bs) h).1)
+line_end b (c ∷ bs) h =
+    one_byte b (c ∷ bs) (first_shown b (c ∷ bs) h).0 ∙ ap (onto b) (line_end c bs (first_shown b (c ∷ bs) h).1)
 
 pub line_more : (bs rest : List ℕ) → Shown bs → lines_of (bs ++ 10 ∷ rest) ≡ bs ∷ lines_of rest
 line_more [] rest h = refl
-line_more (b ∷ bs) rest h = one_byte b (bs ++ 10 ∷ rest) (first_shown b bs h).0 ∙ ap (onto b) (line_more bs rest (first_shown b bs h).1)
+line_more (b ∷ bs) rest h =
+    one_byte b (bs ++ 10 ∷ rest) (first_shown b bs h).0 ∙ ap (onto b) (line_more bs rest (first_shown b bs h).1)
 
 -- ---- what is printed
 
 pub shown_append : (a b : List ℕ) → Shown a → Shown b → Shown (a ++ b)
 shown_append [] b g h = h
-shown_append (c ∷ a) b g h = ap (λ x. cond x (all_by value_modulo (a ++ b)) false) (first_shown c a g).0 ∙ shown_append a b (first_shown c a g).1 h
+shown_append (c ∷ a) b g h = ap (λ x. cond x (all_by value_modulo (a ++ b)) false) (first_shown c a g).0
+    ∙ shown_append a b (first_shown c a g).1 h
 
 either : {G : Type 0} (a b : Bool) → (a || b) ≡ true → (a ≡ true → G) → (b ≡ true → G) → G
 either true b e f g = f refl
@@ -108,7 +115,8 @@ index_shown : (before : Bool) (i : Option ℕ) (s : ℕ) → Shown (index_text b
 index_shown before None s = refl
 index_shown before (Some r) s =
     shown_append (plus before ++ register_name D r ++ codes "*") (scale_text s)
-    (shown_append (plus before ++ register_name D r) (codes "*") (shown_append (plus before) (register_name D r) (plus_shown before) (register_shown D r)) refl)
+    (shown_append (plus before ++ register_name D r) (codes "*")
+    (shown_append (plus before) (register_name D r) (plus_shown before) (register_shown D r)) refl)
     (scale_pick (s == 1) (s == 2) (s == 4))
 
 disp_pick : (z before : Bool) (d : ℕ) → Shown (cond z [] (plus before ++ number d))
@@ -122,7 +130,9 @@ mem_shown m =
     let index : List ℕ = index_text (is_some m.base) m.index m.scale in
     shown_append (codes "[" ++ base_text m.base ++ index ++ disp_text before m.disp) (codes "]")
     (shown_append (codes "[" ++ base_text m.base ++ index) (disp_text before m.disp)
-    (shown_append (codes "[" ++ base_text m.base) index (shown_append (codes "[") (base_text m.base) refl (base_shown m.base)) (index_shown (is_some m.base) m.index m.scale))
+    (shown_append (codes "[" ++ base_text m.base) index
+    (shown_append (codes "[") (base_text m.base) refl (base_shown m.base))
+    (index_shown (is_some m.base) m.index m.scale))
     (disp_pick (before && (m.disp == 0)) before m.disp))
     refl
 
@@ -130,7 +140,8 @@ arg_shown : (a : Arg) → Shown (arg_text a)
 arg_shown (arg.Register w r) = register_shown w r
 arg_shown (arg.Place w m) =
     shown_append (size_name w ++ codes " ") (mem_text m)
-    (shown_append (size_name w) (codes " ") (name_shown (size_name w) (name_all (size_name w) (size_test w))) refl) (mem_shown m)
+    (shown_append (size_name w) (codes " ") (name_shown (size_name w) (name_all (size_name w) (size_test w))) refl)
+    (mem_shown m)
 arg_shown (arg.Address m) = mem_shown m
 arg_shown (arg.Number n) = number_shown n
 arg_shown (arg.Short n) = shown_append (codes "short ") (number n) refl (number_shown n)
@@ -149,7 +160,8 @@ op_shown o at =
     let c : List ℕ = behind (codes ", ") (third_arg o at) in
     shown_append (name ++ a ++ b) c
     (shown_append (name ++ a) b
-    (shown_append name a (name_shown name (name_all name (mnemonic_test (mnemonic_of o)))) (behind_shown (codes " ") (first_arg o at) refl))
+    (shown_append name a (name_shown name (name_all name (mnemonic_test (mnemonic_of o))))
+    (behind_shown (codes " ") (first_arg o at) refl))
     (behind_shown (codes ", ") (second_arg o at) refl))
     (behind_shown (codes ", ") (third_arg o at) refl)
 
@@ -164,7 +176,8 @@ insn_shown i at = lock_shown i.lock (op_text i.op at) (op_shown i.op at)
 -- ---- the line
 
 -- a text with a token is not empty
-all_of : (bs : List ℕ) (lock : Bool) (l t : Lexeme) (ts : List Lexeme) → tokens_of bs ≡ Some (cond lock (l ∷ []) [] ++ t ∷ ts) → Shown bs → lines_of bs ≡ bs ∷ []
+all_of : (bs : List ℕ) (lock : Bool) (l t : Lexeme) (ts : List Lexeme)
+    → tokens_of bs ≡ Some (cond lock (l ∷ []) [] ++ t ∷ ts) → Shown bs → lines_of bs ≡ bs ∷ []
 unfolding tokens_of
 all_of [] true l t ts e h = absurd cc
 all_of [] false l t ts e h = absurd cc
@@ -172,6 +185,7 @@ all_of (b ∷ bs) lock l t ts e h = line_end b bs h
 
 pub text_is_one_line : TextIsOneLine
 text_is_one_line i at = (
-  all_of (insn_text i at) i.lock (Word (codes "lock")) (Word (name_of (mnemonic_of i.op))) (args_tokens i.op at) (text_has_its_tokens i at) (insn_shown i at),
+  all_of (insn_text i at) i.lock (Word (codes "lock")) (Word (name_of (mnemonic_of i.op))) (args_tokens i.op at)
+      (text_has_its_tokens i at) (insn_shown i at),
   λ rest. line_more (insn_text i at) rest (insn_shown i at),
 )

@@ -1,5 +1,6 @@
 -- No symbol stands in what printed operands are read as.
-use Rattle.std.proofs.Common.{◌≡◌, ℕ, Bool, true, false, cond, List, [], ◌∷◌, Option, Some, None, refl, ◌∙◌, ap, map, is_some, subst}
+use Rattle.std.proofs.Common.{◌≡◌, ℕ, Bool, true, false, cond, List, [], ◌∷◌, Option, Some, None, refl, ◌∙◌, ap, map}
+use Rattle.std.proofs.Common.{is_some, subst}
 use Rattle.std.specs.Prelude.{◌&&◌, ◌||◌, ◌==◌, option_map}
 use Rattle.ia_lex.specs.Terms.{AtomContent, NumberAtom, SymbolAtom, TermContent}
 use Rattle.ia_text.specs.declared.arg.Arg.{Arg}
@@ -57,18 +58,21 @@ operand_given (arg.Number n) = (tt, tt)
 operand_given (arg.Short n) = (tt, tt)
 operand_given arg.Cl = tt
 
-parts_plain : (os : Operands) (s : OperandShape) (ps : List TermContent) (shapes : OperandShapes) → Plain os → AreNumbers ps → Plain (with_terms os s ps shapes)
+parts_plain : (os : Operands) (s : OperandShape) (ps : List TermContent) (shapes : OperandShapes) → Plain os
+    → AreNumbers ps → Plain (with_terms os s ps shapes)
 parts_plain os (shape.Register w r) ps shapes h g = h
 parts_plain os (shape.Memory w m) ps shapes h g = (h.0, g)
 parts_plain os shape.Number ps shapes h g = (g, h.1)
 parts_plain os shape.Near ps shapes h g = (g, h.1)
 parts_plain os shape.Short ps shapes h g = (g, h.1)
 
-shapes_plain : (os : Operands) (s : OperandShape) (ps : List TermContent) (x : Option OperandShapes) → Plain os → AreNumbers ps → PlainIf (option_map (with_terms os s ps) x)
+shapes_plain : (os : Operands) (s : OperandShape) (ps : List TermContent) (x : Option OperandShapes) → Plain os
+    → AreNumbers ps → PlainIf (option_map (with_terms os s ps) x)
 shapes_plain os s ps None h g = tt
 shapes_plain os s ps (Some shapes) h g = parts_plain os s ps shapes h g
 
-plain_after : (x : Option Operands) (f : Operands → Option Operands) → PlainIf x → ((os : Operands) → Plain os → PlainIf (f os)) → PlainIf (by_operands x f)
+plain_after : (x : Option Operands) (f : Operands → Option Operands) → PlainIf x
+    → ((os : Operands) → Plain os → PlainIf (f os)) → PlainIf (by_operands x f)
 plain_after None f h k = tt
 plain_after (Some os) f h k = k os h
 
@@ -76,8 +80,10 @@ plain_all : (os : Operands) (args : List Arg) → Plain os → PlainIf (operands
 plain_all os [] h = h
 plain_all os (a ∷ rest) h =
     plain_after (with_operand os (operand_for a)) (λ more. operands_for more rest)
-    (shapes_plain os (operand_for a).shape (operand_for a).terms (with_shape os.shapes (operand_for a).shape) h (operand_given a))
+    (shapes_plain os (operand_for a).shape (operand_for a).terms (with_shape os.shapes (operand_for a).shape) h
+    (operand_given a))
     (λ more k. plain_all more rest k)
 
-pub plain_operands : (start os : Operands) (args : List Arg) → Plain start → operands_for start args ≡ Some os → Plain os
+pub plain_operands : (start os : Operands) (args : List Arg) → Plain start
+    → operands_for start args ≡ Some os → Plain os
 plain_operands start os args h e = subst PlainIf e (plain_all start args h)

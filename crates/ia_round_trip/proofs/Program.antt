@@ -1,5 +1,6 @@
 -- A source with the text of an instruction is read.
-use Rattle.std.proofs.Common.{◌≡◌, ℕ, ◌<◌, ◌^◌, false, true, cond, List, [], ◌∷◌, ◌++◌, Option, Some, None, refl, sym, ◌∙◌, ap, arith, codes, append-nil}
+use Rattle.std.proofs.Common.{◌≡◌, ℕ, ◌<◌, ◌^◌, false, true, cond, List, [], ◌∷◌, ◌++◌, Option, Some, None, refl, sym}
+use Rattle.std.proofs.Common.{◌∙◌, ap, arith, codes, append-nil}
 use Rattle.std.specs.Prelude.{Ok}
 use Rattle.std.proofs.lemmas.Bool.{lt-ltb}
 use Rattle.ia_item.specs.declared.item.Section.TheVariants as section
@@ -52,7 +53,9 @@ source_reads_back i at h e =
       r.0,
       r.1,
       r.2,
-      ap (lines_onto first_content) (line_more first (insn_text i at) (shown_append (codes "org ") (number at) refl (number_shown at)) ∙ ap (λ ls. first ∷ ls) (text_is_one_line i at).0)
+      ap (lines_onto first_content)
+          (line_more first (insn_text i at) (shown_append (codes "org ") (number at) refl (number_shown at))
+          ∙ ap (λ ls. first ∷ ls) (text_is_one_line i at).0)
           ∙ ap (λ s. by_line s (λ more. lines_onto more (insn_text i at ∷ []))) (org_line at h)
           ∙ ap (λ s. by_line s (λ more. lines_onto more [])) (r.3 (based (Some at))),
       r.4,

@@ -16,7 +16,8 @@ use Rattle.ia_form.specs.Forms.{by_op, op_of}
 use Rattle.ia_source.specs.Operands.{Operands, empty_operands}
 use Rattle.ia_source.specs.Statements.{add_some, code_item, with_flags, in_next_line}
 use Rattle.ia_source.specs.Source.{or_bad, head_onto, tokens_onto, line_onto}
-use Rattle.ia_resolve.proofs.FieldLemmas.{number_encodable, number_lockable, place_encodable, place_lockable, insn_encodable}
+use Rattle.ia_resolve.proofs.FieldLemmas.{number_encodable, number_lockable, place_encodable, place_lockable}
+use Rattle.ia_resolve.proofs.FieldLemmas.{insn_encodable}
 use Rattle.ia_round_trip.specs.Operands.{operands_for, args_of}
 use Rattle.ia_round_trip.specs.Resolution.{resolved_insn}
 use Rattle.ia_round_trip.specs.Forms.{expression_of, FormReadsBack}
@@ -37,7 +38,8 @@ none_held field.Long = omega arith
 none_held (field.Near long) = omega arith
 none_held (field.Short long) = refl
 
-bare_encodable : (l : Bool) (o : Op) → IsTrue (is_encodable (record { lock = l; op = o })) → IsTrue (is_encodable (record { lock = l; op = bare o }))
+bare_encodable : (l : Bool) (o : Op) → IsTrue (is_encodable (record { lock = l; op = o }))
+    → IsTrue (is_encodable (record { lock = l; op = bare o }))
 bare_encodable l o e =
     insn_encodable l o (bare o) e
     (λ h. place_encodable (with_number o 0) 0 (omega arith) (number_encodable o 0 (none_held (field_of o)) h))
@@ -61,17 +63,22 @@ form_reads_back i at e =
 -- ---- lines
 
 line_is_read : (i : Insn) (at : ℕ) → IsTrue (is_encodable i) → (os : Operands) (t : Insn)
-    → operands_for empty_operands (args_of i.op at) ≡ Some os → by_op i.lock (op_of (mnemonic_of i.op) os.shapes) ≡ Some t
+    → operands_for empty_operands (args_of i.op at) ≡ Some os
+    → by_op i.lock (op_of (mnemonic_of i.op) os.shapes) ≡ Some t
     → IsReadAs (insn_text i at) t (expression_of os.number) (expression_of os.displacement)
 unfolding line_onto
 line_is_read i at e os t args form s =
     let plain : Plain os = plain_operands empty_operands os (args_of i.op at) (tt, tt) args in
-    let out : Option ItemContent → _ = λ x. or_bad s.at.line (in_next_line (with_flags s.at false true)) s.names (add_some s.entries s.at x) in
+    let out : Option ItemContent → _ =
+    λ x. or_bad s.at.line (in_next_line (with_flags s.at false true)) s.names (add_some s.entries s.at x) in
     ap (tokens_onto s) (text_has_its_tokens i at)
     ∙ ap (head_onto s) (head_reads_back i at)
-    ∙ ap (λ o. out (code_item s.at.scope i.lock (mnemonic_of i.op) o)) (operands_read_back i.op at (args_fit i.op at (op_encodable i e)) ∙ args)
-    ∙ ap (λ o. out (option_map (λ j. Code j (terms_in_scope s.at.scope os.number) (terms_in_scope s.at.scope os.displacement)) o)) form
-    ∙ ap (λ n. out (Some (Code t n (terms_in_scope s.at.scope os.displacement)))) (written_same s.at.scope os.number plain.0)
+    ∙ ap (λ o. out (code_item s.at.scope i.lock (mnemonic_of i.op) o))
+    (operands_read_back i.op at (args_fit i.op at (op_encodable i e)) ∙ args)
+    ∙ ap (λ o. out
+    (option_map (λ j. Code j (terms_in_scope s.at.scope os.number) (terms_in_scope s.at.scope os.displacement)) o)) form
+    ∙ ap (λ n. out (Some (Code t n (terms_in_scope s.at.scope os.displacement))))
+    (written_same s.at.scope os.number plain.0)
     ∙ ap (λ p. out (Some (Code t (expression_of os.number) p))) (written_same s.at.scope os.displacement plain.1)
 
 pub instruction_reads_back : InstructionReadsBack

@@ -9,8 +9,10 @@ dropped : (xs : List Token) → map lexeme_of (drop 1 xs) ≡ drop 1 (map lexeme
 dropped [] = refl
 dropped (x ∷ xs) = refl
 
-pub with_colon : (xs : List Token) → begins_with_colon (map lexeme_of xs) ≡ true → map lexeme_of (take (length xs - 1) (drop 1 xs)) ≡ behind_colon (map lexeme_of xs)
+pub with_colon : (xs : List Token) → begins_with_colon (map lexeme_of xs) ≡ true
+    → map lexeme_of (take (length xs - 1) (drop 1 xs)) ≡ behind_colon (map lexeme_of xs)
 with_colon xs e = ap (map lexeme_of) (take_rest xs 1) ∙ dropped xs ∙ sym (rw e refl)
 
-pub without_colon : (xs : List Token) → begins_with_colon (map lexeme_of xs) ≡ false → map lexeme_of xs ≡ behind_colon (map lexeme_of xs)
+pub without_colon : (xs : List Token) → begins_with_colon (map lexeme_of xs) ≡ false
+    → map lexeme_of xs ≡ behind_colon (map lexeme_of xs)
 without_colon xs e = sym (rw e refl)

@@ -19,10 +19,12 @@ entry_set = hlevel props
 reads_prop : (source : List ℕ) (names : Names) (es : List Entry) → IsProp (ReadsAs source names es)
 reads_prop source names es = hlevel (props, entry_set)
 
-pub kept_read : {V : Type 0} (items : V → List Entry) (source : List ℕ) (names : Names) (whole : Option V) (v : V) → ∥ IfSome whole (λ w. ReadsAs source names (items w)) ∥₁ → whole ≡ Some v
+pub kept_read : {V : Type 0} (items : V → List Entry) (source : List ℕ) (names : Names) (whole : Option V) (v : V)
+    → ∥ IfSome whole (λ w. ReadsAs source names (items w)) ∥₁ → whole ≡ Some v
     → ReadsAs source names (items v)
 kept_read items source names whole v kept is =
-    ∥∥₁_elim kept (reads_prop source names (items v)) (λ k. subst (λ w. IfSome w (λ w. ReadsAs source names (items w))) is k)
+    ∥∥₁_elim kept (reads_prop source names (items v))
+    (λ k. subst (λ w. IfSome w (λ w. ReadsAs source names (items w))) is k)
 
 pub read_fit : (source : List ℕ) (names : Names) (es : List Entry) → ReadsAs source names es → AllFit es
 read_fit source names es reads =

@@ -7,13 +7,15 @@ use Rattle.ia_source.specs.Keywords.{find_named}
 pub named_step : {A : Type 0} (name : A → List ℕ) (w : List ℕ) (xs : List A) (i : ℕ) (x : A) → i < length xs
     → is_word (name (get_or xs i x)) w ≡ false → find_named name (drop i xs) w ≡ find_named name (drop (i + 1) xs) w
 named_step name w xs i x h e =
-    let more : find_named name (drop i xs) w ≡ find_named name (get_or xs i x ∷ drop (i + 1) xs) w = at_drop_more (λ ys. find_named name ys w) xs i x h in
+    let more : find_named name (drop i xs) w ≡ find_named name (get_or xs i x ∷ drop (i + 1) xs) w =
+    at_drop_more (λ ys. find_named name ys w) xs i x h in
     rw more (rw e refl)
 
 pub named_stop : {A : Type 0} (name : A → List ℕ) (w : List ℕ) (xs : List A) (i : ℕ) (x : A) → i < length xs
     → is_word (name (get_or xs i x)) w ≡ true → find_named name (drop i xs) w ≡ Some (get_or xs i x)
 named_stop name w xs i x h e =
-    let more : find_named name (drop i xs) w ≡ find_named name (get_or xs i x ∷ drop (i + 1) xs) w = at_drop_more (λ ys. find_named name ys w) xs i x h in
+    let more : find_named name (drop i xs) w ≡ find_named name (get_or xs i x ∷ drop (i + 1) xs) w =
+    at_drop_more (λ ys. find_named name ys w) xs i x h in
     rw more (rw e refl)
 
 pub named_end : {A : Type 0} (name : A → List ℕ) (w : List ℕ) (xs : List A) (i : ℕ) → length xs ≤ i

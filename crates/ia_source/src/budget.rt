@@ -1,8 +1,8 @@
 //! What reading a source may take.
 //!
-//! An assembler takes no more than 12 times its source and 64 MiB beside what it gives: of that reading may spend 10 bytes for
-//! each of the source's and 60 MiB, on tokens, on the entries of a part and on names. It asks before each line, so that a
-//! source that is made to take much is refused and takes nothing from others.
+//! An assembler takes no more than 12 times its source and 64 MiB beside what it gives: of that reading may spend 10
+//! bytes for each of the source's and 60 MiB, on tokens, on the entries of a part and on names. It asks before each
+//! line, so that a source that is made to take much is refused and takes nothing from others.
 
 ghost use Rattle.std.specs.Prelude.{◌≡◌, ◌≤◌, length, false};
 ghost use Rattle.ia_names.specs.Namings.{Grows};
@@ -18,11 +18,12 @@ const FOR_A_BYTE: usize = 10;
 /// What reading may take for any source, in bytes.
 const FOR_ANY: usize = 60 << 20;
 
-/// A token, in bytes: 24 in the list of its line, and 4 for a number's own bytes, which stand twice until they are an entry.
+/// A token, in bytes: 24 in the list of its line, and 4 for a number's own bytes, which stand twice until they are an
+/// entry.
 const TOKEN: usize = 28;
 
-/// A part of a name, in bytes: 44 among the parts, 29 among the symbols that are defined, and up to 70 in the largest table
-/// that the assembler makes of symbols at a time.
+/// A part of a name, in bytes: 44 among the parts, 29 among the symbols that are defined, and up to 70 in the largest
+/// table that the assembler makes of symbols at a time.
 const NAME: usize = 144;
 
 /// What a name that `equ` defines takes more, in bytes, in the table of their values.

@@ -10,7 +10,8 @@ use ia_item::{Entry, Walk};
 use ia_names::Names;
 use std::alloc::Global;
 
-/// A source that is read some lines at a time, as often as wanted. Names keep their symbols from one reading to the next.
+/// A source that is read some lines at a time, as often as wanted. Names keep their symbols from one reading to the
+/// next.
 #[derive(Drop)]
 pub struct Reader<'a> {
     pub(crate) alloc: Global,

@@ -100,7 +100,8 @@ impl<'a> Rest<'a> {
         Ok(())
     }
 
-    /// The entries of the next lines: of all, or of so many that a part of the source is read, each of which can be placed.
+    /// The entries of the next lines: of all, or of so many that a part of the source is read, each of which can be
+    /// placed.
     ///
     /// Otherwise the first line that is wrong and what is wrong with it. `NoMemory` where no memory was left, or the
     /// budget was spent.

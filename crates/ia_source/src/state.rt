@@ -5,7 +5,8 @@ ghost use Rattle.ia_names.specs.Namings.{Grows};
 ghost use Rattle.ia_source.specs.declared.state.SourceState.{SourceState as SourceStateOf};
 ghost use Rattle.ia_lex.specs.Tokens.{lexeme_of};
 ghost use Rattle.ia_source.specs.Statements.{first_state, next_line, named_section, only_number, with_label};
-ghost use Rattle.ia_source.specs.Statements.{in_section, with_flags, behind_statement, behind, state_content, IsLabelOf};
+ghost use Rattle.ia_source.specs.Statements.{in_section, with_flags, behind_statement, behind, state_content};
+ghost use Rattle.ia_source.specs.Statements.{IsLabelOf};
 
 use crate::directive::Directive;
 use crate::head::Statement;

@@ -1,12 +1,14 @@
 //! The values of `db` and `dd`.
 
-ghost use Rattle.std.specs.Prelude.{◌≡◌, ℕ, List, ◌<◌, ◌^◌, ◌++◌, [], Some, map, option_map, if◌then◌else◌, MatchResult, IfSome};
+ghost use Rattle.std.specs.Prelude.{◌≡◌, ℕ, List, ◌<◌, ◌^◌, ◌++◌, [], Some, map, option_map, if◌then◌else◌};
+ghost use Rattle.std.specs.Prelude.{MatchResult, IfSome};
 ghost use Rattle.std.specs.Prelude.{IfOk, OnOk};
 ghost use Rattle.ia_lex.specs.Tokens.{lexeme_of};
 ghost use Rattle.ia_names.specs.Namings.{IsNaming, Grows};
 ghost use Rattle.ia_source.specs.Contents.{Reading, entry_content};
 ghost use Rattle.ia_source.specs.Commas.{between_commas};
-ghost use Rattle.ia_source.specs.Statements.{plain_number, number_bytes, with_run, values_content, value_onto, no_value};
+ghost use Rattle.ia_source.specs.Statements.{plain_number, number_bytes, with_run, values_content, value_onto};
+ghost use Rattle.ia_source.specs.Statements.{no_value};
 ghost use Rattle.ia_source.specs.Statements.{values_onto, state_content, IsBad};
 
 use crate::comma::comma_index;
@@ -133,7 +135,8 @@ pub fn push_values<'a>(
         (no_value (map (entry_content r) entries.old.list.items)) (between_commas (map lexeme_of tokens.now))
         ≡ Some (map (entry_content r) entries.new.list.items))
         (IsBad (values_onto long (state_content names.old.scope.text.now state)
-        (no_value (map (entry_content r) entries.old.list.items)) (between_commas (map lexeme_of tokens.now))) state.line) }
+        (no_value (map (entry_content r) entries.old.list.items)) (between_commas (map lexeme_of tokens.now)))
+        state.line) }
 {
     let mut run = Vec::new(alloc);
     let mut place = 0;

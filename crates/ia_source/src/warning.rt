@@ -38,8 +38,8 @@ fn warn_of<O: Out>(number: usize, line: &[u8], out: &mut O) -> Result<(), Failed
     }
 }
 
-/// Tells of each line of a source that is a label alone, without a colon: `warning line`, the line's number from 1, and the
-/// label whole. Where the device fails, a beginning of that text was written.
+/// Tells of each line of a source that is a label alone, without a colon: `warning line`, the line's number from 1, and
+/// the label whole. Where the device fails, a beginning of that text was written.
 pub fn warn<O: Out>(source: &[u8], out: &mut O) -> Result<(), Failed>
     ensures { Writes (O.device out.old) (O.device out.new) (warnings source.now) result }
 {

@@ -22,8 +22,8 @@ fn a_program(rt: HostRuntime) -> Result<(), Fail> {
     Ok(())
 }
 
-/// INC EAX; DEC ECX; PUSH EDX; JNZ; XEND; NOP; and then LOCK INC dword [1000h], ADD AL, CL, HLT, which are no usual ones,
-/// and a byte that begins nothing.
+/// INC EAX; DEC ECX; PUSH EDX; JNZ; XEND; NOP; and then LOCK INC dword [1000h], ADD AL, CL, HLT, which are no usual
+/// ones, and a byte that begins nothing.
 const CODE: [u8; 20] = [
     0x40, 0x49, 0x52, 0x75, 0xfb, 0x0f, 0x01, 0xd5, 0x90, 0xf0, 0xff, 0x05, 0, 0x10, 0, 0, 0x00,
     0xc8, 0xf4, 0x0f,

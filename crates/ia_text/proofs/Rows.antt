@@ -12,14 +12,23 @@ begin : insn_text (record { lock = false; op = op.Xbegin 15 }) 256 ≡ codes "xb
 unfolding insn_text op_text
 begin = refl
 
-locked : insn_text (record { lock = true; op = op.Alu alu.Add D (operand.Mem (record { base = Some 0; index = Some 1; scale = 4; disp = 16 })) (operand.Imm 18) }) 0 ≡ codes "lock add dword [eax+ecx*4+0x10], 0x12"
+locked : insn_text (record {
+  lock = true;
+  op = op.Alu alu.Add D (operand.Mem (record { base = Some 0; index = Some 1; scale = 4; disp = 16 })) (operand.Imm 18);
+}) 0 ≡ codes "lock add dword [eax+ecx*4+0x10], 0x12"
 unfolding insn_text op_text mem_text
 locked = refl
 
-absolute : insn_text (record { lock = false; op = op.Mov D (operand.Reg 0) (operand.Mem (record { base = None; index = None; scale = 1; disp = 256 })) }) 0 ≡ codes "mov eax, dword [0x100]"
+absolute : insn_text (record {
+  lock = false;
+  op = op.Mov D (operand.Reg 0) (operand.Mem (record { base = None; index = None; scale = 1; disp = 256 }));
+}) 0 ≡ codes "mov eax, dword [0x100]"
 unfolding insn_text op_text mem_text
 absolute = refl
 
-zero_place : insn_text (record { lock = false; op = op.IncDec inc_dec.Inc B (operand.Mem (record { base = None; index = None; scale = 1; disp = 0 })) }) 0 ≡ codes "inc byte [0x0]"
+zero_place : insn_text (record {
+  lock = false;
+  op = op.IncDec inc_dec.Inc B (operand.Mem (record { base = None; index = None; scale = 1; disp = 0 }));
+}) 0 ≡ codes "inc byte [0x0]"
 unfolding insn_text op_text mem_text
 zero_place = refl

@@ -49,8 +49,8 @@ pub struct Listing {
 }
 
 impl Listing {
-    /// That of a program, whose instructions at these distances ran: a long one where these are, and near them. What comes from a
-    /// line of a source that is shown stands there.
+    /// That of a program, whose instructions at these distances ran: a long one where these are, and near them. What
+    /// comes from a line of a source that is shown stands there.
     pub fn of(loaded: Loaded<'_>, sources: &Sources, ran: &[bool]) -> Result<Listing, AllocError> {
         let alloc = loaded.alloc;
         let rows = rows_of(loaded, ran)?;
@@ -87,7 +87,8 @@ fn sights_of(
     Ok(sights)
 }
 
-// Where a row is seen that is shown: one from a line of a source in that, but for a label there, which is none of its lines.
+// Where a row is seen that is shown: one from a line of a source in that, but for a label there, which is none of its
+// lines.
 fn sight_of(loaded: Loaded<'_>, sources: &Sources, row: Row) -> Sight {
     match row {
         Row::Code(offset) => {
@@ -216,7 +217,8 @@ impl Cursor {
     }
 }
 
-/// Writes the lines of a listing below those of sources, each a string; of rows side by side that are not listed an empty one.
+/// Writes the lines of a listing below those of sources, each a string; of rows side by side that are not listed an
+/// empty one.
 pub fn write_listing<O: Out>(
     loaded: Loaded<'_>,
     listing: &Listing,
@@ -334,8 +336,8 @@ fn row_seen(sight: Sight, line: u64) -> Option<u64> {
     }
 }
 
-/// Writes of the instruction at a distance from the first byte of the code its address, the index of its line, and its text,
-/// behind a comma where there was another.
+/// Writes of the instruction at a distance from the first byte of the code its address, the index of its line, and its
+/// text, behind a comma where there was another.
 pub fn write_spot<O: Out>(
     loaded: Loaded<'_>,
     some: bool,

@@ -22,8 +22,9 @@ pub enum Form {
     Image,
 }
 
-/// Writes the lines of a program of this text, of which the instructions at these distances from the first byte of the code ran, and
-/// where its instructions stand in them. The lines of an executable's sources come before those of its listing.
+/// Writes the lines of a program of this text, of which the instructions at these distances from the first byte of the
+/// code ran, and where its instructions stand in them. The lines of an executable's sources come before those of its
+/// listing.
 pub fn write_program<O: Out>(
     loaded: Loaded<'_>,
     form: Form,

@@ -33,7 +33,8 @@ struct Source {
     lines: u64,
 }
 
-/// The sources that an executable's code was made from, as far as they are shown: one below the other, each under its name.
+/// The sources that an executable's code was made from, as far as they are shown: one below the other, each under its
+/// name.
 #[derive(Drop)]
 pub struct Sources {
     list: Vec<Source>,
@@ -50,9 +51,10 @@ impl Sources {
         }
     }
 
-    /// The sources of the instructions at these distances from the first byte of the code, that ran: those that stand in the folder of
-    /// the executable at this path under the names that its table of lines has. A source is UTF-8 without a byte of 0, of at most
-    /// 256 KiB, and its name ends as that of a source does; the first 16 are looked for. One that cannot be read is not shown.
+    /// The sources of the instructions at these distances from the first byte of the code, that ran: those that stand
+    /// in the folder of the executable at this path under the names that its table of lines has. A source is UTF-8
+    /// without a byte of 0, of at most 256 KiB, and its name ends as that of a source does; the first 16 are looked
+    /// for. One that cannot be read is not shown.
     pub fn beside<P: Paths>(
         loaded: Loaded<'_>,
         path: &str,
@@ -68,7 +70,8 @@ impl Sources {
         Ok(sources)
     }
 
-    // Looks for the source of the instruction at a distance from the first byte of the code, where that was not done yet.
+    // Looks for the source of the instruction at a distance from the first byte of the code, where that was not done
+    // yet.
     fn look<P: Paths>(
         &mut self,
         loaded: Loaded<'_>,

@@ -35,7 +35,8 @@ not_made_of {Maker} {takes} {refuses} machine each setup asked cores before why 
     (names_no_core asked cores (machine h.after) h.made h.pick why kept h.due none))
 
 -- of what is surveyed as it steps
-pub not_surveyed_of : {Maker : Type 0} {takes : Maker → List (Pick × Outcome) → Maker → Type 0} (machine : Maker → Machine)
+pub not_surveyed_of : {Maker : Type 0} {takes : Maker → List (Pick × Outcome) → Maker → Type 0}
+    (machine : Maker → Machine)
     (each : (a : Maker) (steps : List (Pick × Outcome)) (b : Maker) → takes a steps b →
     length (machine b).views ≡ length (machine a).views)
     (setup : Setup) (asked : Course) (cores : ℕ) (before : Maker) (why : Refusal) →
@@ -58,7 +59,8 @@ pub not_told_of : {Maker : Type 0} {takes : Maker → List (Pick × Outcome) →
 not_told_of machine each stretch cores before why same entries (inl h) =
     ⊎_elim
     (λ (none : IsNoCore (machine h.after) h.pick why).
-    IsNotTold.not_made (not_made_of machine each stretch.setup.now stretch.course.now cores before why same entries h none))
+    IsNotTold.not_made
+    (not_made_of machine each stretch.setup.now stretch.course.now cores before why same entries h none))
     (λ (text : IsUntold why). IsNotTold.untold text)
     h.refused
 not_told_of machine each stretch cores before why same entries (inr wanting) =

@@ -1,7 +1,7 @@
 //! Pieces of a page's data, none of which has a `<`.
 //!
-//! What the data is made of escapes each `<` (`page_text`). Here each piece is looked at once more before it is written, so that,
-//! whatever made it, nothing in the data ends the element that it stands in.
+//! What the data is made of escapes each `<` (`page_text`). Here each piece is looked at once more before it is
+//! written, so that, whatever made it, nothing in the data ends the element that it stands in.
 
 ghost use Rattle.std.specs.Prelude.{◌≡◌, ◌⊎◌, Err, IfErr, OnOk, true};
 ghost use Rattle.std.specs.List.{list_all};

@@ -38,7 +38,8 @@ pub struct Survey {
     pub made: u64,
     /// By its number, how each line of memory was used up to the last step that is asked for.
     pub lines: Vec<LineUse>,
-    /// By its distance from the first, whether an instruction at a byte of the code was to run in a step that is asked for.
+    /// By its distance from the first, whether an instruction at a byte of the code was to run in a step that is asked
+    /// for.
     pub ran: Vec<bool>,
 }
 

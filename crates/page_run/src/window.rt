@@ -4,7 +4,8 @@
 //! they can be tested: `--from` first, then `--to`. [`Window::check`] then refuses a page that is too long. Which
 //! step is written where is said in `page_telling`.
 
-ghost use Rattle.std.specs.Prelude.{◌≡◌, ◌+◌, ◌-◌, ◌<◌, ◌≤◌, ◌&&◌, ◌⊎◌, codes, IfErr, IfOk, MatchOption, OnErr, OnOk, min, nat_eq, nat_le, nat_lt};
+ghost use Rattle.std.specs.Prelude.{◌≡◌, ◌+◌, ◌-◌, ◌<◌, ◌≤◌, ◌&&◌, ◌⊎◌, codes, IfErr, IfOk, MatchOption, OnErr, OnOk};
+ghost use Rattle.std.specs.Prelude.{min, nat_eq, nat_le, nat_lt};
 ghost use Rattle.std.specs.Option.{option_copied};
 ghost use Rattle.elide_program.specs.Settings.{number_said};
 ghost use Rattle.page_run.specs.Refused.{HasNoFirst, HasNoWindow, IsLastBefore, IsNoNumber};
@@ -53,8 +54,8 @@ impl Extent {
         Ok(Extent { from, to })
     }
 
-    /// The steps of a run of this length: those that are there, where more are asked for. It is a misuse to begin before the
-    /// first step or behind the last, and to end before the first that stands there.
+    /// The steps of a run of this length: those that are there, where more are asked for. It is a misuse to begin
+    /// before the first step or behind the last, and to end before the first that stands there.
     pub fn window(&self, total: u64) -> Result<Window, Refusal>
         ensures window { IfOk result (IsWindow self.now.from self.now.to total) }
         ensures none { IfErr result (HasNoWindow self.now.from self.now.to total) }

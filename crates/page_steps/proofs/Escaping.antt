@@ -1,5 +1,6 @@
 -- Words in which JSON escapes nothing.
-use Rattle.std.proofs.Common.{◌≡◌, ◌∙◌, ℕ, zero, suc, ◌+◌, ◌/◌, ◌%◌, ◌<◌, ◌≤◌, Bool, true, false, cond, List, [], ◌∷◌, ◌++◌, ap, arith, codes, inl, inr, refl, subst, sym, ◌⊎◌}
+use Rattle.std.proofs.Common.{◌≡◌, ◌∙◌, ℕ, zero, suc, ◌+◌, ◌/◌, ◌%◌, ◌<◌, ◌≤◌, Bool, true, false, cond, List, [], ◌∷◌}
+use Rattle.std.proofs.Common.{◌++◌, ap, arith, codes, inl, inr, refl, subst, sym, ◌⊎◌}
 use Rattle.std.proofs.lemmas.Bool.{cases_eq, ne_eqb}
 use Rattle.std.proofs.lemmas.Bool.Decides.{nat_tests}
 use Rattle.std.proofs.lemmas.Grind.{flat_map-append}
@@ -9,17 +10,20 @@ use Rattle.json.specs.Print.{escape, escape_byte, escape_letter}
 use Rattle.text_out.specs.TextLine.{number_text}
 use Rattle.tm_hist.specs.Lines.{interference_word, state_word, stop_word}
 use Rattle.page_steps.specs.Reading.{HasDepth}
-use Rattle.page_steps.specs.Types.{Aborted, AbortedBy, AtStop, Begun, Committed, Condemned, CoreState, Idle, Inside, Interference}
+use Rattle.page_steps.specs.Types.{Aborted, AbortedBy, AtStop, Begun, Committed, Condemned, CoreState, Idle, Inside}
+use Rattle.page_steps.specs.Types.{Interference}
 use Rattle.page_steps.specs.Types.{Loaded, Mid, Open, Outcome, Plain, Running, Stop, Stopped}
 use Rattle.tm_model.specs.declared.outcome.Interference.TheVariants.{Eviction, Interrupt, Snoop}
-use Rattle.tm_rule.specs.declared.kinds.Stop.TheVariants.{Breakpoint, CodeStore, Divide, Fetch, Halt, NotInSubset, Protection, Range, Undefined}
+use Rattle.tm_rule.specs.declared.kinds.Stop.TheVariants.{Breakpoint, CodeStore, Divide, Fetch, Halt, NotInSubset}
+use Rattle.tm_rule.specs.declared.kinds.Stop.TheVariants.{Protection, Range, Undefined}
 use Rattle.page_steps.specs.Words.{letter_of}
 
 abbrev pub Stays : List ℕ → Type 0
 Stays word = escape word ≡ word
 
 stays-append : (first second : List ℕ) → Stays first → Stays second → Stays (first ++ second)
-stays-append first second h k = flat_map-append escape_byte first second ∙ ap (λ t. t ++ escape second) h ∙ ap (λ t. first ++ t) k
+stays-append first second h k =
+    flat_map-append escape_byte first second ∙ ap (λ t. t ++ escape second) h ∙ ap (λ t. first ++ t) k
 
 -- ---- digits
 
@@ -52,7 +56,8 @@ number_stays n h = of (nat_lt n 10) (nat_lt n 100) refl refl where
       else if middle then (48 + n / 10) ∷ (48 + n % 10) ∷ []
       else (48 + n / 100) ∷ (48 + n / 10 % 10) ∷ (48 + n % 10) ∷ [])
   of true middle e f = stays-cons (48 + n) [] (digit_stays n (grind (arith, nat_tests))) refl
-  of false true e f = stays-cons (48 + n / 10) _ (digit_stays (n / 10) (grind (arith, nat_tests))) (stays-cons (48 + n % 10) [] (digit_stays (n % 10) (omega arith)) refl)
+  of false true e f = stays-cons (48 + n / 10) _ (digit_stays (n / 10) (grind (arith, nat_tests)))
+      (stays-cons (48 + n % 10) [] (digit_stays (n % 10) (omega arith)) refl)
   of false false e f =
       stays-cons (48 + n / 100) _ (digit_stays (n / 100) (omega arith)) (stays-cons (48 + n / 10 % 10) _
       (digit_stays (n / 10 % 10) (omega arith)) (stays-cons (48 + n % 10) [] (digit_stays (n % 10) (omega arith)) refl))
@@ -75,7 +80,13 @@ HexStays d = escape_byte (slice_index lower_digits d) ≡ slice_index lower_digi
 
 sixteen : Each HexStays 16
 unfolding escape_byte
-sixteen = (refl, (refl, (refl, (refl, (refl, (refl, (refl, (refl, (refl, (refl, (refl, (refl, (refl, (refl, (refl, (refl, tt))))))))))))))))
+sixteen = (
+  refl,
+  (
+    refl,
+    (refl, (refl, (refl, (refl, (refl, (refl, (refl, (refl, (refl, (refl, (refl, (refl, (refl, (refl, tt)))))))))))))),
+  ),
+)
 
 pub hex_stays : (bytes : List ℕ) → ((i : ℕ) → slice_index bytes i < 256) → Stays (encode_lower bytes)
 unfolding encode_with

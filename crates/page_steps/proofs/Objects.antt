@@ -1,14 +1,18 @@
 -- The object of a step is what is printed of its members' values, and what is found in it are they.
-use Rattle.std.proofs.Common.{◌≡◌, ◌∙◌, ℕ, ◌+◌, ◌≤◌, max, Bool, true, false, cond, List, [], ◌∷◌, ◌++◌, Option, Some, None, ap, append_assoc, arith, codes, refl, subst, sym}
+use Rattle.std.proofs.Common.{◌≡◌, ◌∙◌, ℕ, ◌+◌, ◌≤◌, max, Bool, true, false, cond, List, [], ◌∷◌, ◌++◌, Option, Some}
+use Rattle.std.proofs.Common.{None, ap, append_assoc, arith, codes, refl, subst, sym}
 use Rattle.json.specs.Token.{Token}
 use Rattle.json.specs.Json.{Items, Json, Members, item, member, no_items, no_members, object}
 use Rattle.json.specs.Print.{print_from, quoted}
-use Rattle.json.specs.Tree.{HasNumbers, ItemsHaveNumbers, MembersHaveNumbers, items_depth, items_tokens, json_tokens, members_depth, members_tokens}
+use Rattle.json.specs.Tree.{HasNumbers, ItemsHaveNumbers, MembersHaveNumbers, items_depth, items_tokens, json_tokens}
+use Rattle.json.specs.Tree.{members_depth, members_tokens}
 use Rattle.page_steps.specs.Members.{members_text}
 use Rattle.page_steps.proofs.Printing.{AreOffers, IsPrint, Offers, behind, members_from, object_item}
 
-member_prints : (after : Bool) (name : List ℕ) (value : Json) (printed : List ℕ) (rest : List Token) → IsPrint 2 value printed →
-    print_from after (Token.key name ∷ (json_tokens value ++ rest)) ≡ behind after (quoted name ++ 58 ∷ printed) ++ print_from true rest
+member_prints : (after : Bool) (name : List ℕ) (value : Json) (printed : List ℕ) (rest : List Token)
+    → IsPrint 2 value printed →
+    print_from after (Token.key name ∷ (json_tokens value ++ rest))
+    ≡ behind after (quoted name ++ 58 ∷ printed) ++ print_from true rest
 unfolding print_from
 member_prints after name value printed rest h =
     let q = quoted name in
@@ -16,7 +20,9 @@ member_prints after name value printed rest h =
     let inner : (q ++ 58 ∷ []) ++ print_from false (json_tokens value ++ rest) ≡ (q ++ 58 ∷ printed) ++ p =
     ap (λ t. (q ++ 58 ∷ []) ++ t) (h.prints false rest) ∙ append_assoc q (58 ∷ []) (printed ++ p)
     ∙ sym (append_assoc q (58 ∷ printed) p) in
-    elim after as (λ after. print_from after (Token.key name ∷ (json_tokens value ++ rest)) ≡ behind after (q ++ 58 ∷ printed) ++ p)
+    elim after
+    as (λ after. print_from after (Token.key name ∷ (json_tokens value ++ rest))
+    ≡ behind after (q ++ 58 ∷ printed) ++ p)
     [ true ↦ ap (λ t. 44 ∷ t) inner | false ↦ inner ]
 
 -- members behind another one
@@ -32,7 +38,8 @@ members_print ((name, None) ∷ offers) (text ∷ texts) rest h =
 members_print ((name, Some value) ∷ offers) (text ∷ texts) rest h =
     let printed = h.0.0 in
     let p = print_from true rest in
-    ap (λ t. print_from true (Token.key name ∷ t)) (append_assoc (json_tokens value) (members_tokens (members_from offers)) rest)
+    ap (λ t. print_from true (Token.key name ∷ t))
+    (append_assoc (json_tokens value) (members_tokens (members_from offers)) rest)
     ∙ member_prints true name value printed (members_tokens (members_from offers) ++ rest) h.0.2
     ∙ ap (λ t. (44 ∷ (quoted name ++ 58 ∷ printed)) ++ t) (members_print offers texts rest h.1)
     ∙ sym (append_assoc (44 ∷ (quoted name ++ 58 ∷ printed)) (members_text true texts) p)
@@ -40,7 +47,8 @@ members_print ((name, Some value) ∷ offers) (text ∷ texts) rest h =
 
 -- the object behind other items, where there is one, and the end of the array
 pub object_prints : (offers : Offers) (texts : List (List ℕ)) (rest : List Token) → AreOffers offers texts →
-    print_from true (items_tokens (object_item (members_from offers)) ++ rest) ≡ members_text false texts ++ 93 ∷ print_from true rest
+    print_from true (items_tokens (object_item (members_from offers)) ++ rest)
+    ≡ members_text false texts ++ 93 ∷ print_from true rest
 unfolding print_from
 object_prints [] [] rest h = refl
 object_prints [] (text ∷ texts) rest h = absurd h
@@ -61,17 +69,20 @@ object_prints ((name, Some value) ∷ offers) (text ∷ texts) rest h =
     ∙ sym (append_assoc (quoted name ++ 58 ∷ printed) (members_text true texts) p))
     ∙ ap (λ t. members_text false (t ∷ texts) ++ p) (sym h.0.1)
 
-members_numbers : (offers : Offers) (texts : List (List ℕ)) → AreOffers offers texts → MembersHaveNumbers (members_from offers)
+members_numbers : (offers : Offers) (texts : List (List ℕ)) → AreOffers offers texts
+    → MembersHaveNumbers (members_from offers)
 members_numbers [] texts h = tt
 members_numbers (offer ∷ offers) [] h = absurd h
 members_numbers ((name, None) ∷ offers) (text ∷ texts) h = members_numbers offers texts h.1
 members_numbers ((name, Some value) ∷ offers) (text ∷ texts) h = (h.0.2.numbers, members_numbers offers texts h.1)
 
-members_shallow : (offers : Offers) (texts : List (List ℕ)) → AreOffers offers texts → members_depth (members_from offers) ≤ 2
+members_shallow : (offers : Offers) (texts : List (List ℕ)) → AreOffers offers texts
+    → members_depth (members_from offers) ≤ 2
 members_shallow [] texts h = omega arith
 members_shallow (offer ∷ offers) [] h = absurd h
 members_shallow ((name, None) ∷ offers) (text ∷ texts) h = members_shallow offers texts h.1
-members_shallow ((name, Some value) ∷ offers) (text ∷ texts) h = omega (arith, h.0.2.shallow, members_shallow offers texts h.1)
+members_shallow ((name, Some value) ∷ offers) (text ∷ texts) h =
+    omega (arith, h.0.2.shallow, members_shallow offers texts h.1)
 
 object_numbers_of : (members : Members) → MembersHaveNumbers members → ItemsHaveNumbers (object_item members)
 object_numbers_of no_members h = tt

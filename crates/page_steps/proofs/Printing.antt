@@ -1,11 +1,14 @@
 -- Texts that are what the library's writer of JSON prints of a value, so that they are read back as that value.
-use Rattle.std.proofs.Common.{◌≡◌, ◌∙◌, ℕ, ◌+◌, ◌<◌, ◌≤◌, ◌^◌, max, Bool, true, false, cond, List, [], ◌∷◌, ◌++◌, Option, Some, None, ap, append_assoc, append-nil, arith, decimal, refl, subst, sym}
+use Rattle.std.proofs.Common.{◌≡◌, ◌∙◌, ℕ, ◌+◌, ◌<◌, ◌≤◌, ◌^◌, max, Bool, true, false, cond, List, [], ◌∷◌, ◌++◌}
+use Rattle.std.proofs.Common.{Option, Some, None, ap, append_assoc, append-nil, arith, decimal, refl, subst, sym}
 use Rattle.std.specs.List.{flat_map, join_with_byte}
 use Rattle.std.specs.Str.{bytes_eq}
 use Rattle.json.specs.Token.{Token}
-use Rattle.json.specs.Json.{Items, Json, Members, array, document, item, max_depth, member, no_items, no_members, number, object, string}
+use Rattle.json.specs.Json.{Items, Json, Members, array, document, item, max_depth, member, no_items, no_members}
+use Rattle.json.specs.Json.{number, object, string}
 use Rattle.json.specs.Print.{IsNumber, escape, print, print_from, quoted}
-use Rattle.json.specs.Tree.{HasNumbers, ItemsHaveNumbers, MembersHaveNumbers, depth, items_depth, items_tokens, json_tokens, members_depth, members_tokens}
+use Rattle.json.specs.Tree.{HasNumbers, ItemsHaveNumbers, MembersHaveNumbers, depth, items_depth, items_tokens}
+use Rattle.json.specs.Tree.{json_tokens, members_depth, members_tokens}
 use Rattle.json.specs.Find.{get_member, later_or}
 use Rattle.json.proofs.Printed.Decimals.{IsNumber-decimal}
 use Rattle.json.proofs.Printed.Trees.{document-print}
@@ -16,14 +19,16 @@ behind after text = cond after (44 ∷ text) text
 
 -- it is what is printed of a value that nests so deep, wherever that stands
 pub record IsPrint (most : ℕ) (value : Json) (text : List ℕ) : Type 0 where
-  pub prints : (after : Bool) (rest : List Token) → print_from after (json_tokens value ++ rest) ≡ behind after text ++ print_from true rest
+  pub prints : (after : Bool) (rest : List Token)
+      → print_from after (json_tokens value ++ rest) ≡ behind after text ++ print_from true rest
   pub numbers : HasNumbers value
   pub shallow : depth value ≤ most
 
 pub number_prints : (n : ℕ) → n < 2 ^ 64 → IsPrint 0 (number (decimal n)) (decimal n)
 unfolding print_from
 number_prints n h = record {
-  prints = λ after rest. elim after as (λ after. print_from after (json_tokens (number (decimal n)) ++ rest) ≡ behind after (decimal n) ++ print_from true rest) [ true ↦ refl | false ↦ refl ];
+  prints = λ after rest. elim after as (λ after. print_from after (json_tokens (number (decimal n)) ++ rest)
+      ≡ behind after (decimal n) ++ print_from true rest) [ true ↦ refl | false ↦ refl ];
   numbers = IsNumber-decimal n h;
   shallow = omega arith;
 }
@@ -32,8 +37,11 @@ number_prints n h = record {
 pub word_prints : (word : List ℕ) → escape word ≡ word → IsPrint 0 (string word) (34 ∷ (word ++ 34 ∷ []))
 unfolding print_from
 word_prints word e = record {
-  prints = λ after rest. subst (λ text. print_from after (json_tokens (string word) ++ rest) ≡ behind after (34 ∷ (text ++ 34 ∷ [])) ++ print_from true rest) e
-      (elim after as (λ after. print_from after (json_tokens (string word) ++ rest) ≡ behind after (34 ∷ (escape word ++ 34 ∷ [])) ++ print_from true rest) [ true ↦ refl | false ↦ refl ]);
+  prints = λ after rest. subst (λ text. print_from after (json_tokens (string word) ++ rest)
+      ≡ behind after (34 ∷ (text ++ 34 ∷ [])) ++ print_from true rest) e
+      (elim after
+      as (λ after. print_from after (json_tokens (string word) ++ rest)
+      ≡ behind after (34 ∷ (escape word ++ 34 ∷ [])) ++ print_from true rest) [ true ↦ refl | false ↦ refl ]);
   numbers = tt;
   shallow = omega arith;
 }
@@ -52,7 +60,8 @@ abbrev pub behind_all : List (List ℕ) → List ℕ
 behind_all texts = flat_map (λ text. 44 ∷ text) texts
 
 -- the items behind some others, with the bracket that closes them
-pub items_print : (most : ℕ) (values : Items) (texts : List (List ℕ)) (rest : List Token) → ArePrints most values texts →
+pub items_print : (most : ℕ) (values : Items) (texts : List (List ℕ)) (rest : List Token)
+    → ArePrints most values texts →
     print_from true (items_tokens values ++ rest) ≡ behind_all texts ++ 93 ∷ print_from true rest
 unfolding print_from
 items_print most no_items [] rest h = refl
@@ -82,23 +91,28 @@ items_first most (item value others) (text ∷ texts) rest h =
     ∙ sym (append_assoc text (behind_all texts) (93 ∷ print_from true rest))
     ∙ ap (λ t. t ++ 93 ∷ print_from true rest) (sym (joined text texts))
 
-items_numbers : (most : ℕ) (values : Items) (texts : List (List ℕ)) → ArePrints most values texts → ItemsHaveNumbers values
+items_numbers : (most : ℕ) (values : Items) (texts : List (List ℕ)) → ArePrints most values texts
+    → ItemsHaveNumbers values
 items_numbers most no_items texts h = tt
 items_numbers most (item value others) [] h = absurd h
 items_numbers most (item value others) (text ∷ texts) h = (h.0.numbers, items_numbers most others texts h.1)
 
-items_shallow : (most : ℕ) (values : Items) (texts : List (List ℕ)) → ArePrints most values texts → items_depth values ≤ most
+items_shallow : (most : ℕ) (values : Items) (texts : List (List ℕ)) → ArePrints most values texts
+    → items_depth values ≤ most
 items_shallow most no_items texts h = omega arith
 items_shallow most (item value others) [] h = absurd h
-items_shallow most (item value others) (text ∷ texts) h = omega (arith, h.0.shallow, items_shallow most others texts h.1)
+items_shallow most (item value others) (text ∷ texts) h =
+    omega (arith, h.0.shallow, items_shallow most others texts h.1)
 
 pub array_prints : (most : ℕ) (values : Items) (texts : List (List ℕ)) → ArePrints most values texts →
     IsPrint (most + 1) (array values) (91 ∷ (join_with_byte 44 texts ++ 93 ∷ []))
 unfolding print_from
 array_prints most values texts h = record {
   prints = λ after rest.
-      let inner : print_from false (items_tokens values ++ rest) ≡ (join_with_byte 44 texts ++ 93 ∷ []) ++ print_from true rest =
-      items_first most values texts rest h ∙ sym (append_assoc (join_with_byte 44 texts) (93 ∷ []) (print_from true rest)) in
+      let inner :
+      print_from false (items_tokens values ++ rest) ≡ (join_with_byte 44 texts ++ 93 ∷ []) ++ print_from true rest =
+      items_first most values texts rest h
+      ∙ sym (append_assoc (join_with_byte 44 texts) (93 ∷ []) (print_from true rest)) in
       elim after as (λ after. print_from after (json_tokens (array values) ++ rest)
       ≡ behind after (91 ∷ (join_with_byte 44 texts ++ 93 ∷ [])) ++ print_from true rest)
       [ true ↦ ap (λ t. 44 ∷ 91 ∷ t) inner | false ↦ ap (λ t. 91 ∷ t) inner ];
@@ -147,6 +161,7 @@ none_first false (Some value) = refl
 
 pub found_in : (name : List ℕ) (offers : Offers) → get_member name (members_from offers) ≡ found name offers
 found_in name [] = refl
-found_in name ((other, None) ∷ offers) = found_in name offers ∙ sym (none_first (bytes_eq other name) (found name offers))
+found_in name ((other, None) ∷ offers) =
+    found_in name offers ∙ sym (none_first (bytes_eq other name) (found name offers))
 found_in name ((other, Some value) ∷ offers) =
     ap (λ later. later_or later (cond (bytes_eq other name) (Some value) None)) (found_in name offers)

@@ -1,5 +1,6 @@
 -- Texts that are written one behind the other.
-use Rattle.std.proofs.Common.{◌≡◌, ◌∙◌, ℕ, ◌+◌, List, [], ◌∷◌, ◌++◌, sym, ap, subst, refl, append_assoc, append-nil, take, get_or}
+use Rattle.std.proofs.Common.{◌≡◌, ◌∙◌, ℕ, ◌+◌, List, [], ◌∷◌, ◌++◌, sym, ap, subst, refl, append_assoc, append-nil}
+use Rattle.std.proofs.Common.{take, get_or}
 use Rattle.std.proofs.lemmas.Result.{on_ok_weaker}
 use Rattle.std.specs.List.{flat_map, join_with_byte}
 use Rattle.std.specs.Prelude.{OnOk, Result, Ok, Err, map}
@@ -39,6 +40,7 @@ more_and first (next ∷ bytes) byte =
     ap (λ t. joint_text first next ++ t) (more_and next bytes byte)
     ∙ sym (append_assoc (joint_text first next) (more_text next bytes) (joint_text (last_of next bytes) byte))
 
-pub last_and : (first : StoredByte) (bytes : List StoredByte) (byte : StoredByte) → last_of first (bytes ++ byte ∷ []) ≡ byte
+pub last_and : (first : StoredByte) (bytes : List StoredByte) (byte : StoredByte)
+    → last_of first (bytes ++ byte ∷ []) ≡ byte
 last_and first [] byte = refl
 last_and first (next ∷ bytes) byte = last_and next bytes byte

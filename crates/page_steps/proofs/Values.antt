@@ -1,5 +1,7 @@
 -- The values of a step's line: what is printed of them, and what is read in them.
-use Rattle.std.proofs.Common.{◌≡◌, ◌∙◌, ℕ, zero, suc, ◌+◌, ◌<◌, ◌≤◌, ◌^◌, Bool, true, false, cond, List, [], ◌∷◌, ◌++◌, Option, Some, None, ap, append_assoc, append-nil, arith, codes, decimal, length, map, refl, subst, sym}
+use Rattle.std.proofs.Common.{◌≡◌, ◌∙◌, ℕ, zero, suc, ◌+◌, ◌<◌, ◌≤◌, ◌^◌, Bool, true, false, cond, List, [], ◌∷◌, ◌++◌}
+use Rattle.std.proofs.Common.{Option, Some, None, ap, append_assoc, append-nil, arith, codes, decimal, length, map}
+use Rattle.std.proofs.Common.{refl, subst, sym}
 use Rattle.std.proofs.lemmas.Bool.{and_from, eqb-true, le-leb}
 use Rattle.std.proofs.lemmas.Fmt.{decimal_is_IsNumeral}
 use Rattle.std.proofs.lemmas.List.Elements.{recursion_from_All}
@@ -64,7 +66,8 @@ list_items (ns ∷ lists) = item (numbers_value ns) (list_items lists)
 abbrev pub lists_value : List (List ℕ) → Json
 lists_value lists = array (list_items lists)
 
-list_items_print : (lists : List (List ℕ)) → AllByRecursion (AllByRecursion IsNumber) lists → ArePrints 1 (list_items lists) (map numbers_text lists)
+list_items_print : (lists : List (List ℕ)) → AllByRecursion (AllByRecursion IsNumber) lists
+    → ArePrints 1 (list_items lists) (map numbers_text lists)
 list_items_print [] h = tt
 list_items_print (ns ∷ lists) h = (numbers_print ns h.0, list_items_print lists h.1)
 
@@ -129,11 +132,13 @@ more_step false byte text behind h =
     (h ∙ sym (append_assoc (encode_lower behind.0) (34 ∷ []) (behind_all (run_texts behind.1)))))
 
 more_is : (last : StoredByte) (bytes : List StoredByte) →
-    more_text last bytes ++ 34 ∷ [] ≡ encode_lower (split_behind last bytes).0 ++ 34 ∷ behind_all (run_texts (split_behind last bytes).1)
+    more_text last bytes ++ 34 ∷ []
+    ≡ encode_lower (split_behind last bytes).0 ++ 34 ∷ behind_all (run_texts (split_behind last bytes).1)
 unfolding encode_with
 more_is last [] = refl
 more_is last (byte ∷ bytes) =
-    more_step (nat_eq byte.address (last.address + 1)) byte (more_text byte bytes) (split_behind byte bytes) (more_is byte bytes)
+    more_step (nat_eq byte.address (last.address + 1)) byte (more_text byte bytes) (split_behind byte bytes)
+    (more_is byte bytes)
 
 inner_is : (bytes : List StoredByte) → inner_text bytes ≡ join_with_byte 44 (run_texts (runs_of bytes))
 unfolding encode_with
@@ -162,7 +167,8 @@ are_bytes (byte ∷ bytes) h (suc i) = are_bytes bytes h.1 i
 abbrev AreRuns : List Run → Type 0
 AreRuns runs = AllByRecursion (λ run. IsNumber run.0 × AreBytes run.1) runs
 
-joined_runs : (next : Bool) (byte : StoredByte) (behind : Split) → IsByteAt byte → AreBytes behind.0 → AreRuns behind.1 →
+joined_runs : (next : Bool) (byte : StoredByte) (behind : Split) → IsByteAt byte → AreBytes behind.0
+    → AreRuns behind.1 →
     AreBytes (joined_if next byte behind).0 × AreRuns (joined_if next byte behind).1
 joined_runs true byte behind h bytes runs = ((h.1, bytes), runs)
 joined_runs false byte behind h bytes runs = (tt, ((h.0, (h.1, bytes)), runs))
@@ -180,13 +186,17 @@ are_runs (byte ∷ bytes) h = let behind = split_runs byte bytes h.1 in ((h.0.0,
 
 run_items_print : (runs : List Run) → AreRuns runs → ArePrints 0 (run_items runs) (run_texts runs)
 run_items_print [] h = tt
-run_items_print (run ∷ runs) h =
-    (number_prints run.0 h.0.0, (word_prints (encode_lower run.1) (hex_stays run.1 (are_bytes run.1 h.0.1)), run_items_print runs h.1))
+run_items_print (run ∷ runs) h = (
+  number_prints run.0 h.0.0,
+  (word_prints (encode_lower run.1) (hex_stays run.1 (are_bytes run.1 h.0.1)), run_items_print runs h.1),
+)
 
-pub runs_print : (bytes : List StoredByte) → AllByRecursion IsByteAt bytes → IsPrint 1 (runs_value bytes) (stored_text bytes)
+pub runs_print : (bytes : List StoredByte) → AllByRecursion IsByteAt bytes
+    → IsPrint 1 (runs_value bytes) (stored_text bytes)
 runs_print bytes h =
     subst (λ (text : List ℕ). IsPrint 1 (runs_value bytes) (91 ∷ (text ++ 93 ∷ []))) (sym (inner_is bytes))
-    (array_prints 0 (run_items (runs_of bytes)) (run_texts (runs_of bytes)) (run_items_print (runs_of bytes) (are_runs bytes h)))
+    (array_prints 0 (run_items (runs_of bytes)) (run_texts (runs_of bytes))
+    (run_items_print (runs_of bytes) (are_runs bytes h)))
 
 -- ---- what is read in them
 
@@ -200,9 +210,11 @@ run_items_read : (runs : List Run) → AreRuns runs → runs_read (run_items run
 run_items_read [] h = refl
 run_items_read (run ∷ runs) h = rw (number_reads run.0 h.0.0, hex_reads run.1 h.0.1, run_items_read runs h.1) refl
 
-joined_bytes : (last : ℕ) (byte : StoredByte) (bytes : List StoredByte) (behind : Split) (next : Bool) → nat_eq byte.address (last + 1) ≡ next →
+joined_bytes : (last : ℕ) (byte : StoredByte) (bytes : List StoredByte) (behind : Split) (next : Bool)
+    → nat_eq byte.address (last + 1) ≡ next →
     bytes_from (byte.address + 1) behind.0 ++ flat_map run_bytes behind.1 ≡ bytes →
-    bytes_from (last + 1) (joined_if next byte behind).0 ++ flat_map run_bytes (joined_if next byte behind).1 ≡ byte ∷ bytes
+    bytes_from (last + 1) (joined_if next byte behind).0 ++ flat_map run_bytes (joined_if next byte behind).1
+    ≡ byte ∷ bytes
 joined_bytes last byte bytes behind true e h =
     let at : byte.address ≡ last + 1 = eqb-true byte.address (last + 1) e in
     ap (λ (first : ℕ). bytes_from first (byte.byte ∷ behind.0) ++ flat_map run_bytes behind.1) (sym at)
@@ -213,11 +225,13 @@ split_bytes : (last : StoredByte) (bytes : List StoredByte) →
     bytes_from (last.address + 1) (split_behind last bytes).0 ++ flat_map run_bytes (split_behind last bytes).1 ≡ bytes
 split_bytes last [] = refl
 split_bytes last (byte ∷ bytes) =
-    joined_bytes last.address byte bytes (split_behind byte bytes) (nat_eq byte.address (last.address + 1)) refl (split_bytes byte bytes)
+    joined_bytes last.address byte bytes (split_behind byte bytes) (nat_eq byte.address (last.address + 1)) refl
+    (split_bytes byte bytes)
 
 runs_bytes : (bytes : List StoredByte) → flat_map run_bytes (runs_of bytes) ≡ bytes
 runs_bytes [] = refl
 runs_bytes (byte ∷ bytes) = ap (λ (others : List StoredByte). byte ∷ others) (split_bytes byte bytes)
 
-pub runs_are_read : (bytes : List StoredByte) → AllByRecursion IsByteAt bytes → stored_of (runs_value bytes) ≡ Some bytes
+pub runs_are_read : (bytes : List StoredByte) → AllByRecursion IsByteAt bytes
+    → stored_of (runs_value bytes) ≡ Some bytes
 runs_are_read bytes h = run_items_read (runs_of bytes) (are_runs bytes h) ∙ ap Some (runs_bytes bytes)

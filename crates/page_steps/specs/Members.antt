@@ -6,7 +6,8 @@ use Rattle.std.specs.Cmp.Lexicographic.{pointwise}
 use Rattle.tm_hist.specs.Lines.{interference_word, state_word}
 use Rattle.page_steps.specs.Numbers.{numbers_text}
 use Rattle.page_steps.specs.Stored.{stored_text}
-use Rattle.page_steps.specs.Types.{Aborted, AbortedBy, Access, B, Begun, Committed, CoreState, D, Hit, Idle, Inside, Kind}
+use Rattle.page_steps.specs.Types.{Aborted, AbortedBy, Access, B, Begun, Committed, CoreState, D, Hit, Idle, Inside}
+use Rattle.page_steps.specs.Types.{Kind}
 use Rattle.page_steps.specs.Types.{Loaded, Outcome, PageDelta, Plain, Read, Stopped, StoredByte, Width, Write}
 use Rattle.page_steps.specs.Words.{quoted_state}
 

@@ -13,7 +13,8 @@ use Rattle.json.specs.Json.{Items, Json, document, item, no_items}
 use Rattle.tm_hist.specs.Lines.{interference_word, state_word}
 use Rattle.page_steps.specs.Members.{bytes_of_width, kind_number, load_made}
 use Rattle.page_steps.specs.Registers.{changed_numbers}
-use Rattle.page_steps.specs.Types.{Aborted, AbortedBy, Access, Begun, Committed, CoreState, Hit, Idle, Inside, Loaded, Open, Outcome}
+use Rattle.page_steps.specs.Types.{Aborted, AbortedBy, Access, Begun, Committed, CoreState, Hit, Idle, Inside, Loaded}
+use Rattle.page_steps.specs.Types.{Open, Outcome}
 use Rattle.page_steps.specs.Types.{AtStop, Condemned, Mid, PageDelta, Plain, Running, Stopped, StoredByte}
 use Rattle.page_steps.specs.Words.{letter_of}
 

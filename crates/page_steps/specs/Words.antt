@@ -1,7 +1,8 @@
 -- What a step was, and what a core does (page/README.md).
 use Rattle.std.specs.Prelude.{List, [], ◌∷◌, ◌++◌, codes, ℕ}
 use Rattle.tm_hist.specs.Lines.{state_word}
-use Rattle.page_steps.specs.Types.{Aborted, AbortedBy, Begun, Committed, CoreState, Idle, Inside, Loaded, Outcome, Plain}
+use Rattle.page_steps.specs.Types.{Aborted, AbortedBy, Begun, Committed, CoreState, Idle, Inside, Loaded, Outcome}
+use Rattle.page_steps.specs.Types.{Plain}
 use Rattle.page_steps.specs.Types.{Stopped}
 
 abbrev pub letter_of : Outcome → List ℕ

@@ -4,13 +4,16 @@
 //! that a step with none has no object either. A load is left out where the outcome says that it was not made. The
 //! registers stand before the object (`step`).
 
-ghost use Rattle.std.specs.Prelude.{◌≡◌, ◌+◌, ◌≤◌, [], IfOk, OnOk, codes, if◌then◌else◌, false, is_some, length, nat_eq};
+ghost use Rattle.std.specs.Prelude.{◌≡◌, ◌+◌, ◌≤◌, [], IfOk, OnOk, codes, if◌then◌else◌, false, is_some, length};
+ghost use Rattle.std.specs.Prelude.{nat_eq};
 ghost use Rattle.std.specs.Cmp.Lexicographic.{pointwise};
 ghost use Rattle.std.specs.List.{list_any};
 ghost use Rattle.tm_hist.specs.Lines.{state_word};
 ghost use Rattle.text_out.specs.Writing.{Wrote};
-ghost use Rattle.page_steps.specs.Members.{access_member, bytes_of_width, event_member, hits_from, hits_member, kind_number};
-ghost use Rattle.page_steps.specs.Members.{lead, load_made, member_text, members_of, members_text, named, some_then, state_member};
+ghost use Rattle.page_steps.specs.Members.{access_member, bytes_of_width, event_member, hits_from, hits_member};
+ghost use Rattle.page_steps.specs.Members.{kind_number};
+ghost use Rattle.page_steps.specs.Members.{lead, load_made, member_text, members_of, members_text, named, some_then};
+ghost use Rattle.page_steps.specs.Members.{state_member};
 ghost use Rattle.page_steps.specs.Members.{store_name};
 ghost use Rattle.page_steps.specs.Numbers.{numbers_text};
 ghost use Rattle.page_steps.specs.Stored.{stored_text};
@@ -27,8 +30,8 @@ use tm_model::{CoreState, Hit, Outcome};
 use tm_page::{PageDelta, StoredByte};
 use tm_sets::Kind;
 
-/// Writes the object of a step whose core did this before it; nothing, where it says nothing. On 5 `Write` a beginning of it
-/// was written.
+/// Writes the object of a step whose core did this before it; nothing, where it says nothing. On 5 `Write` a beginning
+/// of it was written.
 pub fn write_members<O: Out>(
     delta: &PageDelta,
     before: CoreState,

@@ -18,8 +18,8 @@ use text_out::{Out, WriteFault};
 use tm_model::CoreState;
 use tm_page::PageDelta;
 
-/// Writes a step: its core, what it was, the registers that changed, and what else did. `before` is what the core did before
-/// it. The line is JSON, in which a reader finds the delta. On 5 `Write` a beginning of it was written.
+/// Writes a step: its core, what it was, the registers that changed, and what else did. `before` is what the core did
+/// before it. The line is JSON, in which a reader finds the delta. On 5 `Write` a beginning of it was written.
 #[tactic(auto, using(crate::proofs::Reading::step_reads))]
 pub fn write_step<O: Out>(
     delta: &PageDelta,

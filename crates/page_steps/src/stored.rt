@@ -13,8 +13,8 @@ use text_out::page::push_bytes;
 use text_out::{Out, WriteFault};
 use tm_page::StoredByte;
 
-/// Writes bytes with their addresses, in brackets: one that stands behind the byte before it goes on with its digits. On 5
-/// `Write` a beginning of them was written.
+/// Writes bytes with their addresses, in brackets: one that stands behind the byte before it goes on with its digits.
+/// On 5 `Write` a beginning of them was written.
 pub fn write_stored<O: Out>(bytes: &[StoredByte], out: &mut O) -> Result<(), WriteFault>
     ensures { OnOk result (Wrote (O.device out.old) (O.device out.new) (stored_text bytes.now)) }
 {

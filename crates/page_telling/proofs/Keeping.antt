@@ -1,5 +1,6 @@
 -- Bytes that are kept, some more and some fewer.
-use Rattle.std.proofs.Common.{◌≡◌, ◌∙◌, ℕ, ◌+◌, ◌<◌, Bool, true, false, cond, not, List, [], ◌∷◌, ◌++◌, ◌&&◌, ◌||◌, ap, sym, refl, subst, take, length, get_or, ⊎_elim}
+use Rattle.std.proofs.Common.{◌≡◌, ◌∙◌, ℕ, ◌+◌, ◌<◌, Bool, true, false, cond, not, List, [], ◌∷◌, ◌++◌, ◌&&◌, ◌||◌, ap}
+use Rattle.std.proofs.Common.{sym, refl, subst, take, length, get_or, ⊎_elim}
 use Rattle.std.proofs.lemmas.Bool.{cases_eq, eqb-true, ne_eqb}
 use Rattle.std.proofs.lemmas.List.Folds.{list_any-append, list_any_more}
 use Rattle.std.proofs.lemmas.List.Sorted.{IsPermutation-insert, list_any-IsPermutation}
@@ -30,7 +31,8 @@ or_both false false s t = refl
 pub kept_more : (bytes : List KeptByte) (place : ℕ) (byte : KeptByte) (other at : ℕ) →
     is_kept (insert bytes place byte) other at ≡ (is_kept bytes other at || is_of other at byte)
 kept_more bytes place byte other at =
-    sym (list_any-IsPermutation (is_of other at) (byte ∷ bytes) (insert bytes place byte) (IsPermutation-insert bytes place byte))
+    sym (list_any-IsPermutation (is_of other at) (byte ∷ bytes) (insert bytes place byte)
+    (IsPermutation-insert bytes place byte))
     ∙ or_swap (is_of other at byte) (is_kept bytes other at)
 
 -- one that was there
@@ -44,23 +46,32 @@ kept_there bytes core address there other at =
     is ∙ sym (ap (λ t. t || (nat_eq other core && nat_eq at address)) is))
     (λ (f : at ≡ address → ⊥). none (nat_eq other core) (ne_eqb at address f))
     (cases_eq at address))
-    (λ (e : other ≡ core → ⊥). sym (ap (λ t. is_kept bytes other at || (t && nat_eq at address)) (ne_eqb other core e) ∙ or_false (is_kept bytes other at)))
+    (λ (e : other ≡ core → ⊥). sym (ap (λ t. is_kept bytes other at || (t && nat_eq at address)) (ne_eqb other core e)
+    ∙ or_false (is_kept bytes other at)))
     (cases_eq other core)
   where
-    none : (is : Bool) → nat_eq at address ≡ false → is_kept bytes other at ≡ (is_kept bytes other at || (is && nat_eq at address))
+    none : (is : Bool) → nat_eq at address ≡ false
+        → is_kept bytes other at ≡ (is_kept bytes other at || (is && nat_eq at address))
     none true e = sym (ap (λ t. is_kept bytes other at || t) e ∙ or_false (is_kept bytes other at))
     none false e = sym (or_false (is_kept bytes other at))
 
 -- those of a list, one by one
-pub kept_all : (bytes now : List KeptByte) (stored : List StoredByte) (core i : ℕ) (d : StoredByte) → i < length stored →
-    (old : List KeptByte) → ((other at : ℕ) → is_kept bytes other at ≡ (is_kept old other at || (nat_eq other core && is_stored (take i stored) at))) →
-    ((other at : ℕ) → is_kept now other at ≡ (is_kept bytes other at || (nat_eq other core && nat_eq at (get_or stored i d).address))) →
-    (other at : ℕ) → is_kept now other at ≡ (is_kept old other at || (nat_eq other core && is_stored (take (i + 1) stored) at))
+pub kept_all : (bytes now : List KeptByte) (stored : List StoredByte) (core i : ℕ) (d : StoredByte)
+    → i < length stored →
+    (old : List KeptByte)
+    → ((other at : ℕ)
+    → is_kept bytes other at ≡ (is_kept old other at || (nat_eq other core && is_stored (take i stored) at))) →
+    ((other at : ℕ)
+    → is_kept now other at ≡ (is_kept bytes other at || (nat_eq other core && nat_eq at (get_or stored i d).address))) →
+    (other at : ℕ)
+    → is_kept now other at ≡ (is_kept old other at || (nat_eq other core && is_stored (take (i + 1) stored) at))
 kept_all bytes now stored core i d below old before one other at =
     one other at
     ∙ ap (λ t. t || (nat_eq other core && nat_eq at (get_or stored i d).address)) (before other at)
-    ∙ or_both (is_kept old other at) (nat_eq other core) (is_stored (take i stored) at) (nat_eq at (get_or stored i d).address)
-    ∙ ap (λ t. is_kept old other at || (nat_eq other core && t)) (sym (list_any_more (λ (byte : StoredByte). nat_eq at byte.address) stored i d below))
+    ∙ or_both (is_kept old other at) (nat_eq other core) (is_stored (take i stored) at)
+    (nat_eq at (get_or stored i d).address)
+    ∙ ap (λ t. is_kept old other at || (nat_eq other core && t))
+    (sym (list_any_more (λ (byte : StoredByte). nat_eq at byte.address) stored i d below))
 
 -- ---- the addresses of a core's
 
@@ -94,6 +105,8 @@ left_more left now bytes core i d below before is other at apart =
     ∙ ap (λ t. is_kept (take i bytes) other at || t) (on byte (nat_eq byte.core core) refl)
     ∙ sym (list_any_more (is_of other at) bytes i d below)
   where
-    on : (byte : KeptByte) (t : Bool) → nat_eq byte.core core ≡ t → is_kept (cond t [] (byte ∷ [])) other at ≡ is_of other at byte
-    on byte true e = sym (ap (λ t. t && nat_eq at byte.address) (ne_eqb other byte.core (λ same. apart (same ∙ eqb-true byte.core core e))))
+    on : (byte : KeptByte) (t : Bool) → nat_eq byte.core core ≡ t
+        → is_kept (cond t [] (byte ∷ [])) other at ≡ is_of other at byte
+    on byte true e = sym (ap (λ t. t && nat_eq at byte.address)
+        (ne_eqb other byte.core (λ same. apart (same ∙ eqb-true byte.core core e))))
     on byte false e = or_false (is_of other at byte)

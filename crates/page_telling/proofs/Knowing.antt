@@ -1,5 +1,7 @@
--- What is known of a machine that is told: what it stands for, and that each byte that its transactions keep is among those known.
-use Rattle.std.proofs.Common.{◌≡◌, ◌∙◌, ℕ, ◌<◌, ◌%◌, Bool, true, false, List, [], ◌∷◌, ◌++◌, ◌&&◌, ◌||◌, Option, Some, None, ap, length, refl, sym, subst, ⊎_elim, if◌then◌else◌}
+-- What is known of a machine that is told: what it stands for, and that each byte that its transactions keep is among
+-- those known.
+use Rattle.std.proofs.Common.{◌≡◌, ◌∙◌, ℕ, ◌<◌, ◌%◌, Bool, true, false, List, [], ◌∷◌, ◌++◌, ◌&&◌, ◌||◌, Option, Some}
+use Rattle.std.proofs.Common.{None, ap, length, refl, sym, subst, ⊎_elim, if◌then◌else◌}
 use Rattle.std.specs.FinMap as map_of
 use Rattle.std.specs.FinSet as set
 use Rattle.std.specs.Option.{option_or}
@@ -41,47 +43,60 @@ pub record IsKnown (machine : Machine) (bytes : List KeptByte) : Type 0 where
 
 -- ---- a step of a machine that stands for a state
 
-took : (state : State) (doomed : ℕ → Option ℕ) (before after : Machine) (pick : Pick) (outcome : Outcome) (last : State) (t : Option State) →
-    IsOwedUnder pick.event (machine_setting before) state doomed pick.core outcome → step (machine_setting before) state pick.core outcome ≡ t →
+took : (state : State) (doomed : ℕ → Option ℕ) (before after : Machine) (pick : Pick) (outcome : Outcome) (last : State)
+    (t : Option State) →
+    IsOwedUnder pick.event (machine_setting before) state doomed pick.core outcome
+    → step (machine_setting before) state pick.core outcome ≡ t →
     option_and_then (λ next. Some next) t ≡ Some last →
-    StandsFor after last (elim t [ None ↦ doomed | Some next ↦ doomed_after (machine_setting before) state doomed pick.core outcome ]) →
+    StandsFor after last
+    (elim t [ None ↦ doomed | Some next ↦ doomed_after (machine_setting before) state doomed pick.core outcome ]) →
     TakesStepUnder pick.event before after state doomed pick.core outcome
 took state doomed before after pick outcome last None owed is run stands = cc
 took state doomed before after pick outcome last (Some next) owed is run stands = record {
   is_owed = owed;
   next = next;
   is_step = is;
-  stands = subst (λ (s : State). StandsFor after s (doomed_after (machine_setting before) state doomed pick.core outcome)) (sym (same_Some next last run)) stands;
+  stands =
+      subst (λ (s : State). StandsFor after s (doomed_after (machine_setting before) state doomed pick.core outcome))
+      (sym (same_Some next last run)) stands;
 }
 
 takes_step : (before after : Machine) (pick : Pick) (outcome : Outcome) → IsMachineStep before pick outcome after →
-    (state : State) (doomed : ℕ → Option ℕ) → StandsFor before state doomed → TakesStepUnder pick.event before after state doomed pick.core outcome
+    (state : State) (doomed : ℕ → Option ℕ) → StandsFor before state doomed
+    → TakesStepUnder pick.event before after state doomed pick.core outcome
 takes_step before after pick outcome h state doomed stands =
-    let none : IsRun before before state doomed [] = record { same = record { rules = refl; cores = refl }; takes = record { are_owed = tt; last = state; is_run = refl; stands = stands } } in
+    let none : IsRun before before state doomed [] = record {
+      same = record { rules = refl; cores = refl };
+      takes = record { are_owed = tt; last = state; is_run = refl; stands = stands };
+    } in
     let gone : IsRun before after state doomed ((pick.core, outcome) ∷ []) = h.goes_on before state doomed [] none in
-    took state doomed before after pick outcome gone.takes.last (step (machine_setting before) state pick.core outcome) (h.under state doomed stands).0 refl
+    took state doomed before after pick outcome gone.takes.last (step (machine_setting before) state pick.core outcome)
+    (h.under state doomed stands).0 refl
     gone.takes.is_run gone.takes.stands
 
 -- a step that was made, told of a machine of which this is known
-pub told_of : (before after : Machine) (pick : Pick) (outcome : Outcome) (reach : Reach) (row : List ℕ) (old : List KeptByte) (delta : PageDelta) →
+pub told_of : (before after : Machine) (pick : Pick) (outcome : Outcome) (reach : Reach) (row : List ℕ)
+    (old : List KeptByte) (delta : PageDelta) →
     IsMachineStep before pick outcome after → pick.core < length before.views → IsReachSaid before pick.core reach →
     ((address : ℕ) → is_listed row address ≡ is_kept old pick.core address) →
     IsDifference before after pick.core outcome reach row delta →
-    (state : State) (doomed : ℕ → Option ℕ) → StandsFor before state doomed → AreAllKept before old → IsTold before after pick.core outcome delta
-told_of before after pick outcome reach row old delta made within said listed difference state doomed stands all = record {
-  within = within;
-  same = made.same;
-  event = pick.event;
-  state = state;
-  doomed = doomed;
-  stands = stands;
-  takes = takes_step before after pick outcome made state doomed stands;
-  reach = reach;
-  said = said;
-  kept = row;
-  are_kept = λ address below none. all pick.core address within below (sym (listed address) ∙ none);
-  difference = difference;
-}
+    (state : State) (doomed : ℕ → Option ℕ) → StandsFor before state doomed → AreAllKept before old
+    → IsTold before after pick.core outcome delta
+told_of before after pick outcome reach row old delta made within said listed difference state doomed stands all =
+    record {
+      within = within;
+      same = made.same;
+      event = pick.event;
+      state = state;
+      doomed = doomed;
+      stands = stands;
+      takes = takes_step before after pick outcome made state doomed stands;
+      reach = reach;
+      said = said;
+      kept = row;
+      are_kept = λ address below none. all pick.core address within below (sym (listed address) ∙ none);
+      difference = difference;
+    }
 
 -- ---- what the page makes of the machine itself
 
@@ -118,13 +133,15 @@ or_none false false e = (refl, refl)
 or_none true b e = cc
 or_none false true e = cc
 
-not_stored : (stored : List StoredByte) (address : ℕ) → is_stored stored address ≡ false → stored_at stored address ≡ None
+not_stored : (stored : List StoredByte) (address : ℕ) → is_stored stored address ≡ false
+    → stored_at stored address ≡ None
 not_stored [] address e = refl
 not_stored (byte ∷ stored) address e =
     let both = or_none (nat_eq address byte.address) (is_stored stored address) e in
     on (nat_eq address byte.address) both.0 (not_stored stored address both.1)
   where
-    on : (t : Bool) → t ≡ false → stored_at stored address ≡ None → (if t then Some byte.byte else stored_at stored address) ≡ None
+    on : (t : Bool) → t ≡ false → stored_at stored address ≡ None
+        → (if t then Some byte.byte else stored_at stored address) ≡ None
     on true f none = cc
     on false f none = none
 
@@ -134,8 +151,10 @@ own_none : (outcome : Outcome) (delta : PageDelta) (view : View) (core address :
     (is_kept old core address ≡ false → private_byte view address ≡ None) →
     (own_after outcome delta (core_of view)).private address ≡ None
 own_none Inside delta view core address old new kept none was =
-    let both = or_none (is_kept old core address) (nat_eq core core && is_stored delta.stored.items address) (sym (kept core address) ∙ none) in
-    let stored : is_stored delta.stored.items address ≡ false = sym (ap (λ t. t && is_stored delta.stored.items address) (eq-eqb core core refl)) ∙ both.1 in
+    let both = or_none (is_kept old core address) (nat_eq core core && is_stored delta.stored.items address)
+    (sym (kept core address) ∙ none) in
+    let stored : is_stored delta.stored.items address ≡ false =
+    sym (ap (λ t. t && is_stored delta.stored.items address) (eq-eqb core core refl)) ∙ both.1 in
     ap (λ o. option_or o (private_byte view address)) (not_stored delta.stored.items address stored) ∙ was both.0
 own_none Begun delta view core address old new kept none was = refl
 own_none Plain delta view core address old new kept none was = refl
@@ -157,7 +176,8 @@ or_first true s = refl
 or_first false s = refl
 
 others_stay : (outcome : Outcome) (stored : List StoredByte) (core other address : ℕ) (old new : List KeptByte) →
-    IsKeptBehind outcome core stored old new → (other ≡ core → ⊥) → is_kept new other address ≡ is_kept old other address
+    IsKeptBehind outcome core stored old new → (other ≡ core → ⊥)
+    → is_kept new other address ≡ is_kept old other address
 others_stay Inside stored core other address old new kept apart =
     kept other address
     ∙ ap (λ t. is_kept old other address || (t && is_stored stored address)) (ne_eqb other core apart)
@@ -181,13 +201,15 @@ all_none : (delta : PageDelta) (view : View) (core number address : ℕ) (outcom
 all_none delta view core number address outcome old new is_core is_outcome kept none was =
     ⊎_elim
     (λ (e : core ≡ number).
-    ap (λ t. (if t then own_after delta.outcome delta (core_of view) else other_after (hit_on delta core) (core_of view)).private address)
+    ap (λ t. (if t then own_after delta.outcome delta (core_of view)
+    else other_after (hit_on delta core) (core_of view)).private address)
     (eq-eqb core delta.core (e ∙ sym is_core))
     ∙ ap (λ o. (own_after o delta (core_of view)).private address) is_outcome
     ∙ own_none outcome delta view number address old new kept (ap (λ n. is_kept new n address) (sym e) ∙ none)
     (λ f. was (ap (λ n. is_kept old n address) e ∙ f)))
     (λ (e : core ≡ number → ⊥).
-    ap (λ t. (if t then own_after delta.outcome delta (core_of view) else other_after (hit_on delta core) (core_of view)).private address)
+    ap (λ t. (if t then own_after delta.outcome delta (core_of view)
+    else other_after (hit_on delta core) (core_of view)).private address)
     (ne_eqb core delta.core (λ same. e (same ∙ is_core)))
     ∙ other_none (hit_on delta core) view address
     (was (sym (others_stay outcome delta.stored.items number core address old new kept e) ∙ none)))
@@ -206,7 +228,8 @@ told_step before after old new told made known = record {
 pub known_behind : (before after : Machine) (old new : List KeptByte) (told : ToldStep) →
     IsMade before old told after new → IsKnown before old → IsKnown after new
 known_behind before after old new told made known =
-    let is : IsTold before after told.pick.core told.outcome told.delta = made.told known.state known.doomed known.stands known.kept in
+    let is : IsTold before after told.pick.core told.outcome told.delta =
+    made.told known.state known.doomed known.stands known.kept in
     let takes = takes_step before after told.pick told.outcome made.step known.state known.doomed known.stands in
     let shows : Shows after (applied told.delta (page_of before)) =
     differences before after told.pick.core told.outcome told.delta is (page_of before) (shows_itself before) in
@@ -217,12 +240,15 @@ known_behind before after old new told made known =
       stands = takes.stands;
       kept = λ core address within below none.
           (shows.cores core within).private address below
-          ∙ all_none told.delta (view_at before core) core told.pick.core address told.outcome old new is.difference.core is.difference.outcome made.kept none
-          (known.kept core address (subst (λ n. core < n) made.step.same.cores within) (subst (λ n. IsAddress n address) size below));
+          ∙ all_none told.delta (view_at before core) core told.pick.core address told.outcome old new
+          is.difference.core is.difference.outcome made.kept none
+          (known.kept core address (subst (λ n. core < n) made.step.same.cores within)
+          (subst (λ n. IsAddress n address) size below));
     }
 
 -- before the first step no transaction is open
-pub known_first : (program : Program) (limits : Limits) (machine : Machine) → IsRunOf program limits [] machine → IsKnown machine []
+pub known_first : (program : Program) (limits : Limits) (machine : Machine) → IsRunOf program limits [] machine
+    → IsKnown machine []
 known_first program limits machine run =
     let last : State = run.is_run.takes.last in
     let same : opening_state program ≡ last = same_Some (opening_state program) last run.is_run.takes.is_run in
@@ -233,7 +259,9 @@ known_first program limits machine run =
       doomed = λ _. None;
       stands = stands;
       kept = λ core address within below none.
-          let out : IsOutside (view_at machine core) = outside_closed (machine_setting machine) (opening_state program).memory (start_regs program core) None (view_at machine core) (stands.each core within) in
+          let out : IsOutside (view_at machine core) =
+          outside_closed (machine_setting machine) (opening_state program).memory (start_regs program core) None
+          (view_at machine core) (stands.each core within) in
           ap (λ b. option_map (λ x. x % 256) (map_of.get b address)) out.buffer
           ∙ ap (option_map (λ x. x % 256)) (map_of.get-empty nat_cmp address);
     }

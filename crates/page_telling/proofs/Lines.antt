@@ -1,5 +1,7 @@
 -- The lines of steps, one step after another.
-use Rattle.std.proofs.Common.{◌≡◌, ◌∙◌, ℕ, zero, suc, ◌+◌, ◌-◌, ◌<◌, ◌≤◌, Bool, true, false, List, [], ◌∷◌, ◌++◌, ◌&&◌, ap, append_assoc, append-nil, arith, drop, length, length-append, refl, sym, subst, zero-add, ⊎_elim}
+use Rattle.std.proofs.Common.{◌≡◌, ◌∙◌, ℕ, zero, suc, ◌+◌, ◌-◌, ◌<◌, ◌≤◌, Bool, true, false, List, [], ◌∷◌, ◌++◌, ◌&&◌}
+use Rattle.std.proofs.Common.{ap, append_assoc, append-nil, arith, drop, length, length-append, refl, sym, subst}
+use Rattle.std.proofs.Common.{zero-add, ⊎_elim}
 use Rattle.std.proofs.lemmas.Bool.{cases_eq, cases_lt, eq-eqb, le-leb, lt-leb, lt-ltb, ne_eqb}
 use Rattle.std.proofs.lemmas.List.{length-map}
 use Rattle.std.proofs.lemmas.List.Folds.{list_all-append}
@@ -28,7 +30,8 @@ AllTell before (step ∷ steps) after = (next : Spot) × TellsStep before step n
 
 parts_tell : {Maker : Type 0} {takes : Maker → List (Pick × Outcome) → Maker → Type 0} (spot : Maker → Spot)
     (each : (a : Maker) (steps : List (Pick × Outcome)) (b : Maker) → takes a steps b → Tells (spot a) steps (spot b))
-    (parts : List (List (Pick × Outcome))) (a b : Maker) → PartsLead takes a parts b → AllTell (spot a) (steps_in parts) (spot b)
+    (parts : List (List (Pick × Outcome))) (a b : Maker) → PartsLead takes a parts b
+    → AllTell (spot a) (steps_in parts) (spot b)
 parts_tell {Maker} {takes} spot each [] a b h = ap spot h
 parts_tell {Maker} {takes} spot each (part ∷ parts) a b h =
     let one : Tells (spot a) part (spot h.0) = each a part h.0 h.1 in
@@ -49,7 +52,8 @@ record Passed (before : Spot) (count : ℕ) (after : Spot) : Type 0 where
 
 passed : (before : Spot) (steps : List (Pick × Outcome)) (after : Spot) → before.window.to ≤ before.made →
     AllTell before steps after → Passed before (length steps) after
-passed before [] after past h = record { device = ap (λ (s : Spot). s.device) h; made = ap (λ (s : Spot). s.made) h ∙ sym (omega arith) }
+passed before [] after past h =
+    record { device = ap (λ (s : Spot). s.device) h; made = ap (λ (s : Spot). s.made) h ∙ sym (omega arith) }
 passed before (step ∷ steps) after past h =
     let one = h.1 in
     let next : Spot = h.0 in
@@ -93,7 +97,9 @@ wrote_no_lines window made a b same = record {
 le_is_eq : (a b : ℕ) → b ≤ a → nat_le a b ≡ nat_eq a b
 le_is_eq a b h =
     ⊎_elim (λ (e : a ≡ b). le-leb a b (omega arith) ∙ sym (eq-eqb a b e))
-    (λ (e : a ≡ b → ⊥). lt-leb a b (⊎_elim (λ (f : b < a). f) (λ (f : a ≤ b). absurd (e (omega (arith, f, h)))) (cases_lt b a)) ∙ sym (ne_eqb a b e))
+    (λ (e : a ≡ b → ⊥).
+    lt-leb a b (⊎_elim (λ (f : b < a). f) (λ (f : a ≤ b). absurd (e (omega (arith, f, h)))) (cases_lt b a))
+    ∙ sym (ne_eqb a b e))
     (cases_eq a b)
 
 nothing : (made from : ℕ) → from ≤ made → 0 ≡ from - made
@@ -101,7 +107,8 @@ nothing made from h = omega arith
 
 -- one that stands in the page
 line_then : (window : Window) (made : ℕ) (one : ToldStep) (told : List ToldStep) (a b c : Device) →
-    window.from ≤ made → made < window.to → IsPiece window made one a b → HasLines window (made + 1) told b c → HasLines window made (one ∷ told) a c
+    window.from ≤ made → made < window.to → IsPiece window made one a b → HasLines window (made + 1) told b c
+    → HasLines window made (one ∷ told) a c
 line_then window made one told a b c from to piece more =
     let line : List ℕ = line_text (nat_eq made window.from) one.delta one.before in
     let tests : (nat_le window.from made && nat_lt made window.to) ≡ true =
@@ -117,27 +124,34 @@ line_then window made one told a b c from to piece more =
     record {
       opening = [];
       none = λ _. refl;
-      plain = subst ArePlain all (both_plain line (lines_text false told) (subst ArePlain is piece.plain) (subst ArePlain rest more.plain));
+      plain = subst ArePlain all
+          (both_plain line (lines_text false told) (subst ArePlain is piece.plain) (subst ArePlain rest more.plain));
       wrote = subst (Wrote a c) all (wrote_then (subst (Wrote a b) is piece.wrote) (subst (Wrote b c) rest more.wrote));
     }
 
 -- one before the first that does
 opening_then : (window : Window) (made : ℕ) (one : ToldStep) (told : List ToldStep) (a b c : Device) →
-    made < window.from → IsPiece window made one a b → HasLines window (made + 1) told b c → HasLines window made (one ∷ told) a c
+    made < window.from → IsPiece window made one a b → HasLines window (made + 1) told b c
+    → HasLines window made (one ∷ told) a c
 opening_then window made one told a b c before piece more =
     let line : List ℕ = line_text (nat_eq made window.from) one.delta one.before in
     let tests : (nat_le window.from made && nat_lt made window.to) ≡ false =
     ap (λ t. t && nat_lt made window.to) (lt-leb window.from made before) in
-    let is : piece_of window made one piece.opening ≡ piece.opening = ap (λ t. if t then line else piece.opening) tests in
-    let all : piece.opening ++ (more.opening ++ lines_from window (made + 1) told) ≡ (piece.opening ++ more.opening) ++ lines_from window made (one ∷ told) =
+    let is : piece_of window made one piece.opening ≡ piece.opening =
+    ap (λ t. if t then line else piece.opening) tests in
+    let all :
+    piece.opening ++ (more.opening ++ lines_from window (made + 1) told)
+    ≡ (piece.opening ++ more.opening) ++ lines_from window made (one ∷ told) =
     ap (λ l. piece.opening ++ (more.opening ++ l))
-    (ap (λ t. lines_text t (drop (window.from - (made + 1)) told)) (le-leb (made + 1) window.from (omega arith) ∙ sym (le-leb made window.from (omega arith)))
+    (ap (λ t. lines_text t (drop (window.from - (made + 1)) told))
+    (le-leb (made + 1) window.from (omega arith) ∙ sym (le-leb made window.from (omega arith)))
     ∙ ap (λ n. lines_text (nat_le made window.from) (drop n (one ∷ told))) (less made window.from before))
     ∙ sym (append_assoc piece.opening more.opening (lines_from window made (one ∷ told))) in
     record {
       opening = piece.opening ++ more.opening;
       none = λ h. absurd (omega arith);
-      plain = subst ArePlain all (both_plain piece.opening (more.opening ++ lines_from window (made + 1) told) (subst ArePlain is piece.plain) more.plain);
+      plain = subst ArePlain all (both_plain piece.opening (more.opening ++ lines_from window (made + 1) told)
+          (subst ArePlain is piece.plain) more.plain);
       wrote = subst (Wrote a c) all (wrote_then (subst (Wrote a b) is piece.wrote) more.wrote);
     }
   where
@@ -145,7 +159,8 @@ opening_then window made one told a b c before piece more =
     less m n h = omega arith
 
 lines_then : (window : Window) (made : ℕ) (one : ToldStep) (told : List ToldStep) (a b c : Device) →
-    made < window.to → IsPiece window made one a b → HasLines window (made + 1) told b c → HasLines window made (one ∷ told) a c
+    made < window.to → IsPiece window made one a b → HasLines window (made + 1) told b c
+    → HasLines window made (one ∷ told) a c
 lines_then window made one told a b c to piece more =
     ⊎_elim (λ (h : made < window.from). opening_then window made one told a b c h piece more)
     (λ (h : window.from ≤ made). line_then window made one told a b c h to piece more)
@@ -159,17 +174,21 @@ pub record HasTold (before : Spot) (steps : List (Pick × Outcome)) (after : Spo
   pub behind : List Pick
   pub picks : picks_made steps ≡ map (λ (one : ToldStep). one.pick) told ++ behind
   pub total : after.made ≡ before.made + (length told + length behind)
-  pub count : before.made ≤ before.window.to → before.window.to ≤ after.made → before.made + length told ≡ before.window.to
+  pub count : before.made ≤ before.window.to → before.window.to ≤ after.made
+      → before.made + length told ≡ before.window.to
   pub last : Machine
   pub chain : AreStepsTold before.machine told last
   pub lines : HasLines before.window before.made told before.device after.device
 
 -- a step up to the last that stands in the page, and those behind it
-tells_then : (before : Spot) (step : Pick × Outcome) (steps : List (Pick × Outcome)) (next after : Spot) → before.made < before.window.to →
-    IsKnown before.machine before.kept → TellsStep before step next → (IsKnown next.machine next.kept → HasTold next steps after) → HasTold before (step ∷ steps) after
+tells_then : (before : Spot) (step : Pick × Outcome) (steps : List (Pick × Outcome)) (next after : Spot)
+    → before.made < before.window.to →
+    IsKnown before.machine before.kept → TellsStep before step next
+    → (IsKnown next.machine next.kept → HasTold next steps after) → HasTold before (step ∷ steps) after
 tells_then before step steps next after within known tells others =
     let one : TellsOne before step next = tells.told within in
-    let more : HasTold next steps after = others (known_behind before.machine next.machine before.kept next.kept one.told one.made known) in
+    let more : HasTold next steps after =
+    others (known_behind before.machine next.machine before.kept next.kept one.told one.made known) in
     let to : next.window.to ≡ before.window.to = ap (λ (w : Window). w.to) tells.window in
     let lines : HasLines before.window (before.made + 1) more.told next.device after.device =
     subst (λ (w : Window). HasLines w (before.made + 1) more.told next.device after.device) tells.window
@@ -177,12 +196,19 @@ tells_then before step steps next after within known tells others =
     record {
       told = one.told ∷ more.told;
       behind = more.behind;
-      picks = ap (λ (made : Pick × Outcome). made.0 ∷ picks_made steps) (sym one.is) ∙ ap (λ l. one.told.pick ∷ l) more.picks;
+      picks = ap (λ (made : Pick × Outcome). made.0 ∷ picks_made steps) (sym one.is)
+          ∙ ap (λ l. one.told.pick ∷ l) more.picks;
       total = omega (arith, more.total, tells.made);
-      count = λ few all. let is = more.count (omega (arith, to, tells.made, within)) (omega (arith, to, all)) in omega (arith, is, to, tells.made);
+      count = λ few all. let is = more.count (omega (arith, to, tells.made, within)) (omega (arith, to, all)) in
+          omega (arith, is, to, tells.made);
       last = more.last;
-      chain = (next.machine, told_step before.machine next.machine before.kept next.kept one.told one.made known, more.chain);
-      lines = lines_then before.window before.made one.told more.told before.device next.device after.device within one.piece lines;
+      chain = (
+        next.machine,
+        told_step before.machine next.machine before.kept next.kept one.told one.made known,
+        more.chain,
+      );
+      lines = lines_then before.window before.made one.told more.told before.device next.device after.device within
+          one.piece lines;
     }
 
 -- those behind it
@@ -194,7 +220,9 @@ passes_all before steps after past h =
       told = [];
       behind = picks_made steps;
       picks = refl;
-      total = all.made ∙ ap (λ n. before.made + n) (sym (length-map steps (λ (made : Pick × Outcome). made.0)) ∙ sym (zero-add (length (picks_made steps))));
+      total = all.made
+          ∙ ap (λ n. before.made + n)
+          (sym (length-map steps (λ (made : Pick × Outcome). made.0)) ∙ sym (zero-add (length (picks_made steps))));
       count = λ few reached. omega (arith, few, past);
       last = before.machine;
       chain = refl;
@@ -215,13 +243,15 @@ has_told before [] after known h = record {
 }
 has_told before (step ∷ steps) after known h =
     ⊎_elim
-    (λ (within : before.made < before.window.to). tells_then before step steps h.0 after within known h.1 (λ knows. has_told h.0 steps after knows h.2))
+    (λ (within : before.made < before.window.to). tells_then before step steps h.0 after within known h.1
+    (λ knows. has_told h.0 steps after knows h.2))
     (λ (past : before.window.to ≤ before.made). passes_all before (step ∷ steps) after past h)
     (cases_lt before.made before.window.to)
 
 -- ---- a run
 
-count_picks : (before : Spot) (steps : List (Pick × Outcome)) (after : Spot) (all : HasTold before steps after) → before.made ≡ 0 →
+count_picks : (before : Spot) (steps : List (Pick × Outcome)) (after : Spot) (all : HasTold before steps after)
+    → before.made ≡ 0 →
     length (picks_made steps) ≡ after.made
 count_picks before steps after all none =
     ap length all.picks
@@ -231,20 +261,28 @@ count_picks before steps after all none =
 
 -- what opens the page, the lines, and the end of their list, one behind the other
 pub lines_written : (stretch : Stretch) (steps : List (Pick × Outcome)) (before after : Spot) (first last : Device) →
-    AreOf stretch.course.now (picks_made steps) → IsRunOf stretch.setup.now.program stretch.setup.now.limits [] before.machine →
+    AreOf stretch.course.now (picks_made steps)
+    → IsRunOf stretch.setup.now.program stretch.setup.now.limits [] before.machine →
     before.made ≡ 0 → before.window ≡ stretch.window → WrotePlain first before.device → HasTold before steps after →
-    after.made ≡ stretch.total → stretch.window.to ≤ after.made → Wrote after.device last (codes "]") → AreLinesWritten stretch first last
+    after.made ≡ stretch.total → stretch.window.to ≤ after.made → Wrote after.device last (codes "]")
+    → AreLinesWritten stretch first last
 lines_written stretch steps before after first last course opens none window opening all total reached end =
     let window_from : before.window.from ≡ stretch.window.from = ap (λ (w : Window). w.from) window in
     let window_to : before.window.to ≡ stretch.window.to = ap (λ (w : Window). w.to) window in
     let text : List ℕ = lines_text true (drop stretch.window.from all.told) in
     let lines : lines_from before.window before.made all.told ≡ text =
-    ap (λ t. lines_text t (drop (before.window.from - before.made) all.told)) (le-leb before.made before.window.from (omega (arith, none)))
+    ap (λ t. lines_text t (drop (before.window.from - before.made) all.told))
+    (le-leb before.made before.window.from (omega (arith, none)))
     ∙ ap (λ n. lines_text true (drop n all.told)) (omega (arith, none, window_from)) in
-    let joined : opening.text ++ ((all.lines.opening ++ text) ++ codes "]") ≡ (opening.text ++ all.lines.opening) ++ (text ++ codes "]") =
-    ap (λ l. opening.text ++ l) (append_assoc all.lines.opening text (codes "]")) ∙ sym (append_assoc opening.text all.lines.opening (text ++ codes "]")) in
-    let plain : ArePlain (all.lines.opening ++ text) = subst (λ l. ArePlain (all.lines.opening ++ l)) lines all.lines.plain in
-    let wrote : Wrote before.device after.device (all.lines.opening ++ text) = subst (λ l. Wrote before.device after.device (all.lines.opening ++ l)) lines all.lines.wrote in
+    let joined :
+    opening.text ++ ((all.lines.opening ++ text) ++ codes "]")
+    ≡ (opening.text ++ all.lines.opening) ++ (text ++ codes "]") =
+    ap (λ l. opening.text ++ l) (append_assoc all.lines.opening text (codes "]"))
+    ∙ sym (append_assoc opening.text all.lines.opening (text ++ codes "]")) in
+    let plain : ArePlain (all.lines.opening ++ text) =
+    subst (λ l. ArePlain (all.lines.opening ++ l)) lines all.lines.plain in
+    let wrote : Wrote before.device after.device (all.lines.opening ++ text) =
+    subst (λ l. Wrote before.device after.device (all.lines.opening ++ l)) lines all.lines.wrote in
     record {
       picks = picks_made steps;
       course = course;
@@ -260,6 +298,7 @@ lines_written stretch steps before after first last course opens none window ope
         chain = all.chain;
       };
       opening = opening.text ++ all.lines.opening;
-      plain = subst ArePlain joined (both_plain opening.text ((all.lines.opening ++ text) ++ codes "]") opening.plain (both_plain (all.lines.opening ++ text) (codes "]") plain refl));
+      plain = subst ArePlain joined (both_plain opening.text ((all.lines.opening ++ text) ++ codes "]") opening.plain
+          (both_plain (all.lines.opening ++ text) (codes "]") plain refl));
       wrote = subst (Wrote first last) joined (wrote_then opening.wrote (wrote_then wrote end));
     }

@@ -4,7 +4,8 @@
 //! step of the core ends them. Of a core that is condemned they stay until its abort, so who writes them asks the
 //! machine whether it is open. What stands at an address is never kept here.
 
-ghost use Rattle.std.specs.Prelude.{◌≡◌, ℕ, ◌≤◌, ◌||◌, ◌&&◌, ◌++◌, ◌∷◌, [], IfOk, OnOk, if◌then◌else◌, length, nat_eq, true};
+ghost use Rattle.std.specs.Prelude.{◌≡◌, ℕ, ◌≤◌, ◌||◌, ◌&&◌, ◌++◌, ◌∷◌, [], IfOk, OnOk, if◌then◌else◌, length, nat_eq};
+ghost use Rattle.std.specs.Prelude.{true};
 ghost use Rattle.tm_page.specs.Applied.{is_listed};
 ghost use Rattle.page_telling.specs.Kept.{IsKeptBehind, OthersStay, is_kept, is_stored};
 
@@ -45,8 +46,8 @@ impl Kept {
         addresses_of(alloc, self.bytes.as_slice(), core)
     }
 
-    /// Takes in a step of a core, with the bytes that it stored: those of a step inside are kept, and behind any other step none
-    /// of its core's is.
+    /// Takes in a step of a core, with the bytes that it stored: those of a step inside are kept, and behind any other
+    /// step none of its core's is.
     pub fn take(
         &mut self,
         alloc: Global,

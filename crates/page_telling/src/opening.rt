@@ -34,8 +34,8 @@ pub struct Behind {
     pub watch: Watch,
 }
 
-/// Writes the registers and states of the cores, their transactions, and the lines of memory that were used and are not zero;
-/// and the beginning of the list of steps.
+/// Writes the registers and states of the cores, their transactions, and the lines of memory that were used and are not
+/// zero; and the beginning of the list of steps.
 pub fn put_opening<O: Out>(
     alloc: Global,
     machine: &Machine,

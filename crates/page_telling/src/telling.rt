@@ -32,7 +32,8 @@ use tm_model::{CoreState, Outcome, Pick};
 use tm_page::{Before, PageDelta, delta_of};
 use tm_why::Watch;
 
-/// Writes the machine before the first step, with the lines of memory that were used, and the steps. Gives the device back.
+/// Writes the machine before the first step, with the lines of memory that were used, and the steps. Gives the device
+/// back.
 pub fn write_steps<O: Out + Drop>(
     stretch: Stretch<'_>,
     lines: &[LineUse],
@@ -67,8 +68,8 @@ pub fn write_steps<O: Out + Drop>(
     ended(out)
 }
 
-// That so many steps were made as the run has, those of the window among them. A schedule makes the steps again that it made as it
-// was surveyed.
+// That so many steps were made as the run has, those of the window among them. A schedule makes the steps again that it
+// made as it was surveyed.
 fn check_made(made: u64, total: u64, window: Window) -> Result<(), Refusal>
     ensures all { OnOk result (made ≡ total) }
     ensures reached { OnOk result (window.to ≤ made) }

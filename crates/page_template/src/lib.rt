@@ -1,8 +1,9 @@
 //! The page that `elide page` writes round a run's data: markup, style and script.
 //!
-//! [`write_head`] writes what stands before the data, with the title in it, and [`write_tail`] what stands behind. The texts
-//! are constants ([`template`]) that scripts/refresh-page puts together from page/. What the script makes of the data is
-//! tested in a browser (scripts/try-page); proved is which bytes are written. Takes no memory. Stands on `page_text`.
+//! [`write_head`] writes what stands before the data, with the title in it, and [`write_tail`] what stands behind. The
+//! texts are constants ([`template`]) that scripts/refresh-page puts together from page/. What the script makes of the
+//! data is tested in a browser (scripts/try-page); proved is which bytes are written. Takes no memory. Stands on
+//! `page_text`.
 #![tactic(auto)]
 
 ghost use Rattle.std.specs.Prelude.{◌++◌};
@@ -15,8 +16,8 @@ use crate::template::{HEAD, MIDDLE, TAIL};
 use page_text::write_title;
 use text_out::{Out, WriteFault};
 
-/// Writes the page up to its data, with its title, of which at most [`page_text::TITLE`] characters stand. On 5 `Write` a
-/// beginning of it was written, and the count of failures rose.
+/// Writes the page up to its data, with its title, of which at most [`page_text::TITLE`] characters stand. On 5 `Write`
+/// a beginning of it was written, and the count of failures rose.
 pub fn write_head<O: Out>(title: &[u8], out: &mut O) -> Result<(), WriteFault>
     ensures { Writes (O.device out.old) (O.device out.new) (HEAD.now ++ (title_text title.now 200 ++ MIDDLE.now))
         result }

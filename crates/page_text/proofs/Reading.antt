@@ -1,5 +1,8 @@
 -- An escaped text is read back, and has safe bytes alone.
-use Rattle.std.proofs.Common.{◌≡◌, ℕ, zero, suc, ◌+◌, ◌-◌, ◌*◌, ◌/◌, ◌%◌, ◌<◌, ◌≤◌, Bool, true, false, cond, not, ◌&&◌, List, [], ◌∷◌, ◌++◌, map, drop, length, Option, Some, None, refl, sym, ◌∙◌, ap, subst, arith, length-drop, append_assoc, inl, inr, ◌⊎◌, ⊎_elim, encode_utf8, encode_utf8_all, option_and_then}
+use Rattle.std.proofs.Common.{◌≡◌, ℕ, zero, suc, ◌+◌, ◌-◌, ◌*◌, ◌/◌, ◌%◌, ◌<◌, ◌≤◌, Bool, true, false, cond, not, ◌&&◌}
+use Rattle.std.proofs.Common.{List, [], ◌∷◌, ◌++◌, map, drop, length, Option, Some, None, refl, sym, ◌∙◌, ap, subst}
+use Rattle.std.proofs.Common.{arith, length-drop, append_assoc, inl, inr, ◌⊎◌, ⊎_elim, encode_utf8, encode_utf8_all}
+use Rattle.std.proofs.Common.{option_and_then}
 use Rattle.std.specs.Prelude.{if◌then◌else◌, ◌==◌, nat_lt, codes, flat_map}
 use Rattle.std.specs.Str.{all_scalars}
 use Rattle.std.specs.Char.{digit_char, digit_value, is_digit, IsScalar}
@@ -12,7 +15,8 @@ use Rattle.std.proofs.lemmas.Int.Digits.{all_below_base_digits_of}
 use Rattle.std.proofs.lemmas.List.Folds.{list_all-append}
 use Rattle.std.proofs.lemmas.Grind.{flat_map-append}
 use Rattle.std.proofs.lemmas.Str.{digit_value-digit_char, encode_ascii}
-use Rattle.json.specs.Text.{content, plain, after_u, after_high, prepend, code_unit, is_high_surrogate, is_low_surrogate, surrogate_pair}
+use Rattle.json.specs.Text.{content, plain, after_u, after_high, prepend, code_unit, is_high_surrogate}
+use Rattle.json.specs.Text.{is_low_surrogate, surrogate_pair}
 use Rattle.bstr.specs.Utf8.{decoded, lossy_chars, or_replacement}
 use Rattle.bstr.proofs.lemmas.PieceLemmas.{lossy_chars-step, lossy_chars-nil, piece-bounds}
 use Rattle.bstr.proofs.lemmas.SoundLemmas.{SpellsChar-decoded}
@@ -20,7 +24,8 @@ use Rattle.text_out.specs.Number.{hex_digits}
 use Rattle.page_text.specs.declared.escape.Escape.{Escape}
 use Rattle.page_text.specs.declared.escape.Escape.TheVariants.{Json, Markup}
 use Rattle.page_text.specs.Shown.{by_number, is_hidden, shown, shown_char, shown_chars}
-use Rattle.page_text.specs.Escaped.{escaped, escaped_char, is_plain, is_safe, is_unmarked, reference_text, string_text, title_text, unit_text, units_text}
+use Rattle.page_text.specs.Escaped.{escaped, escaped_char, is_plain, is_safe, is_unmarked, reference_text, string_text}
+use Rattle.page_text.specs.Escaped.{title_text, unit_text, units_text}
 
 -- ---- each shown character is one of Unicode
 

@@ -1,5 +1,6 @@
 -- A text that is written character by character.
-use Rattle.std.proofs.Common.{◌≡◌, ℕ, zero, suc, ◌+◌, ◌-◌, ◌<◌, ◌≤◌, List, [], ◌∷◌, ◌++◌, length, drop, take, refl, sym, ◌∙◌, ap, arith, map, length-drop, ◌/◌, ◌%◌, subst, append_assoc, inl, inr, ◌⊎◌}
+use Rattle.std.proofs.Common.{◌≡◌, ℕ, zero, suc, ◌+◌, ◌-◌, ◌<◌, ◌≤◌, List, [], ◌∷◌, ◌++◌, length, drop, take, refl, sym}
+use Rattle.std.proofs.Common.{◌∙◌, ap, arith, map, length-drop, ◌/◌, ◌%◌, subst, append_assoc, inl, inr, ◌⊎◌}
 use Rattle.std.specs.Prelude.{if◌then◌else◌, ◌==◌, codes, flat_map, Bool, true, false, cond, nat_lt}
 use Rattle.std.specs.Char.{digit_char}
 use Rattle.std.specs.Int.Digits.{AllBelowBase, digits_of}

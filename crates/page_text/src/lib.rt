@@ -1,11 +1,11 @@
 //! The texts that go into a page: strings of JSON within a `script` element, the title, numbers and hex digits.
 //!
-//! [`write_string`] and [`write_title`] take any bytes from outside, as the name of a file or of a symbol. First the text
-//! becomes what is shown of it (`specs/Shown.antt`): ill-formed UTF-8 is U+FFFD, what does not print or turns the direction
-//! of text stands by its number, and of a long text a front stands, with `..` behind it. Then each character is escaped
-//! (`specs/Escaped.antt`), so that all bytes are printable ASCII and none of them is `<` or `>`: no text ends the element,
-//! and none is markup. A string has no `&` either, and reads back: its value, by the grammar of JSON, is what is shown.
-//! Takes no memory. Stands on `text_out` and `bstr`.
+//! [`write_string`] and [`write_title`] take any bytes from outside, as the name of a file or of a symbol. First the
+//! text becomes what is shown of it (`specs/Shown.antt`): ill-formed UTF-8 is U+FFFD, what does not print or turns the
+//! direction of text stands by its number, and of a long text a front stands, with `..` behind it. Then each character
+//! is escaped (`specs/Escaped.antt`), so that all bytes are printable ASCII and none of them is `<` or `>`: no text
+//! ends the element, and none is markup. A string has no `&` either, and reads back: its value, by the grammar of JSON,
+//! is what is shown. Takes no memory. Stands on `text_out` and `bstr`.
 #![tactic(auto)]
 
 mod escape;

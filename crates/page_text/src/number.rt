@@ -21,8 +21,8 @@ pub fn write_number<O: Out>(number: u64, out: &mut O) -> Result<(), WriteFault>
     Ok(())
 }
 
-/// Writes bytes in hex as a string of JSON, with its quotes. On 5 `Write` a beginning of it was written, and the count of
-/// failures rose.
+/// Writes bytes in hex as a string of JSON, with its quotes. On 5 `Write` a beginning of it was written, and the count
+/// of failures rose.
 pub fn write_hex<O: Out>(bytes: &[u8], out: &mut O) -> Result<(), WriteFault>
     ensures { Writes (O.device out.old) (O.device out.new) (hex_text bytes.now) result }
 {

@@ -13,8 +13,8 @@ use bstr::decode_lossy;
 use text_out::page::{Page, make_room, push};
 use text_out::{Out, WriteFault};
 
-/// Writes a text as a string of JSON, with its quotes: at most `most` characters, and two dots behind them where there are
-/// more. On 5 `Write` a beginning of it was written, and the count of failures rose.
+/// Writes a text as a string of JSON, with its quotes: at most `most` characters, and two dots behind them where there
+/// are more. On 5 `Write` a beginning of it was written, and the count of failures rose.
 #[tactic(auto, using(crate::proofs::Reading::string_reads, crate::proofs::Reading::string_is_safe))]
 pub fn write_string<O: Out>(text: &[u8], most: usize, out: &mut O) -> Result<(), WriteFault>
     ensures text { Writes (O.device out.old) (O.device out.new) (string_text text.now most) result }
@@ -27,8 +27,8 @@ pub fn write_string<O: Out>(text: &[u8], most: usize, out: &mut O) -> Result<(),
     Ok(())
 }
 
-/// Writes a text between two tags, as a title: at most `most` characters, and two dots behind them where there are more. On
-/// 5 `Write` a beginning of it was written, and the count of failures rose.
+/// Writes a text between two tags, as a title: at most `most` characters, and two dots behind them where there are
+/// more. On 5 `Write` a beginning of it was written, and the count of failures rose.
 #[tactic(auto, using(crate::proofs::Reading::title_is_unmarked))]
 pub fn write_title<O: Out>(text: &[u8], most: usize, out: &mut O) -> Result<(), WriteFault>
     ensures text { Writes (O.device out.old) (O.device out.new) (title_text text.now most) result }

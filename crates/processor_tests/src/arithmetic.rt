@@ -1,4 +1,5 @@
-//! Results and flags at the edges as a processor gives them (tests-data/arithmetic.c). Worked rows stand in `doc_tests`.
+//! Results and flags at the edges as a processor gives them (tests-data/arithmetic.c). Worked rows stand in
+//! `doc_tests`.
 
 mod products_table;
 mod shifts_table;

@@ -1,5 +1,5 @@
-//! Sessions with gdb on several cores, by packets: each step, stop and step back that a clause promises, once, and a plan
-//! with a core that there is not, which a command refuses.
+//! Sessions with gdb on several cores, by packets: each step, stop and step back that a clause promises, once, and a
+//! plan with a core that there is not, which a command refuses.
 
 use gdb_packet::write_packet;
 use ia_image::load;

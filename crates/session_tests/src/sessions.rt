@@ -1,5 +1,5 @@
-//! What no row of `doc_tests` shows of a session: what is left of its input, the board that it gives back, numbers and names,
-//! and a plan with a core that there is not. Code lies from 100h on, in a memory of 65,536 bytes.
+//! What no row of `doc_tests` shows of a session: what is left of its input, the board that it gives back, numbers and
+//! names, and a plan with a core that there is not. Code lies from 100h on, in a memory of 65,536 bytes.
 
 mod broken;
 

@@ -1,5 +1,7 @@
 -- A text that is written in parts.
-use Rattle.std.proofs.Common.{◌≡◌, ℕ, ◌<◌, ◌∙◌, sym, ap, arith, List, [], ◌∷◌, ◌++◌, Option, Some, None, refl, append_assoc, append-nil, inl, inr, subst, take, drop, length, ◌+◌, ◌≤◌, ◌-◌, ◌^◌, min, take-add, get_or, drop-cons, suc}
+use Rattle.std.proofs.Common.{◌≡◌, ℕ, ◌<◌, ◌∙◌, sym, ap, arith, List, [], ◌∷◌, ◌++◌, Option, Some, None, refl}
+use Rattle.std.proofs.Common.{append_assoc, append-nil, inl, inr, subst, take, drop, length, ◌+◌, ◌≤◌, ◌-◌, ◌^◌, min}
+use Rattle.std.proofs.Common.{take-add, get_or, drop-cons, suc}
 use Rattle.std.proofs.lemmas.Grind.{common_steps}
 use Rattle.std.specs.Io.KnownBytes.{Appends, Keeps}
 use Rattle.std.specs.Prelude.{Result, IsErr, flat_map}
@@ -29,11 +31,13 @@ pub appends_more : (a b c : Option (List ℕ)) (xs rest : List ℕ) (at n : ℕ)
     Appends a b (take at xs) → Appends b c (take n rest) → Appends a c (take (at + n) xs)
 appends_more a b c xs rest at n e h k =
     let P : List ℕ → Type 0 = λ l. Appends a c l in
-    let same : take at xs ++ take n rest ≡ take (at + n) xs = ap (λ l. take at xs ++ take n l) e ∙ sym (take-add at n xs) in
+    let same : take at xs ++ take n rest ≡ take (at + n) xs =
+    ap (λ l. take at xs ++ take n l) e ∙ sym (take-add at n xs) in
     subst P same (appends_then a b c (take at xs) (take n rest) h k)
 
 -- no more bytes after the first part
-pub appends_stay : (a b c : Option (List ℕ)) (xs rest : List ℕ) (n : ℕ) → n ≡ 0 → Appends a b xs → Appends b c (take n rest) → Appends a c xs
+pub appends_stay : (a b c : Option (List ℕ)) (xs rest : List ℕ) (n : ℕ) → n ≡ 0 → Appends a b xs
+    → Appends b c (take n rest) → Appends a c xs
 appends_stay a b c xs rest n e h k =
     let P : List ℕ → Type 0 = λ l. Appends a c l in
     let same : xs ++ take n rest ≡ xs = ap (λ m. xs ++ take m rest) e ∙ append-nil xs in
@@ -65,7 +69,12 @@ rose_then e (inr top) = inr top
 -- the first part was written, and then a beginning of the second
 pub stopped_then : {a b c : Device} {x y : List ℕ} → Wrote a b x → Stopped b c y → Stopped a c (x ++ y)
 stopped_then {a} {b} {c} {x} {y} h k = record {
-  bytes = (x ++ k.bytes.0, k.bytes.1, ap (λ l. x ++ l) k.bytes.2 ∙ sym (append_assoc x k.bytes.0 k.bytes.1), appends_then a.contents b.contents c.contents x k.bytes.0 h.bytes k.bytes.3);
+  bytes = (
+    x ++ k.bytes.0,
+    k.bytes.1,
+    ap (λ l. x ++ l) k.bytes.2 ∙ sym (append_assoc x k.bytes.0 k.bytes.1),
+    appends_then a.contents b.contents c.contents x k.bytes.0 h.bytes k.bytes.3,
+  );
   failures = rose_then h.failures k.failures;
 }
 
@@ -77,22 +86,27 @@ stopped_first {a} {b} {x} y k = record {
 }
 
 -- a call whose first part was written, and whose second returned r
-pub writes_then : {T E : Type 0} {a b : Device} {x : List ℕ} (c : Device) (y : List ℕ) (r : Result T E) → Wrote a b x → Writes b c y r → Writes a c (x ++ y) r
+pub writes_then : {T E : Type 0} {a b : Device} {x : List ℕ} (c : Device) (y : List ℕ) (r : Result T E) → Wrote a b x
+    → Writes b c y r → Writes a c (x ++ y) r
 writes_then {T} {E} {a} {b} {x} c y r h k =
-    MatchResult-weaker r {P = λ _. Wrote b c y} {P' = λ _. Wrote a c (x ++ y)} {Q = λ _. Stopped b c y} {Q' = λ _. Stopped a c (x ++ y)} k
+    MatchResult-weaker r {P = λ _. Wrote b c y} {P' = λ _. Wrote a c (x ++ y)} {Q = λ _. Stopped b c y}
+    {Q' = λ _. Stopped a c (x ++ y)} k
     (λ _ done. wrote_then h done) (λ _ stopped. stopped_then h stopped)
 
 -- a call that returns an `Err` where its first part stopped
-pub writes_stopped : {T E : Type 0} {a b : Device} {x : List ℕ} (y : List ℕ) (r : Result T E) → IsErr r → Stopped a b x → Writes a b (x ++ y) r
+pub writes_stopped : {T E : Type 0} {a b : Device} {x : List ℕ} (y : List ℕ) (r : Result T E) → IsErr r → Stopped a b x
+    → Writes a b (x ++ y) r
 writes_stopped {T} {E} {a} {b} {x} y r failed k =
     MatchResult-from_err r (λ _. Wrote a b (x ++ y)) (λ _. Stopped a b (x ++ y)) failed (λ _. stopped_first y k)
 
 -- a text of one part for each element: the parts before i were written, and a beginning of the part at i
-pub stopped_within : {a b c : Device} (f : ℕ → List ℕ) (xs : List ℕ) (i : ℕ) → i < length xs → Wrote a b (flat_map f (take i xs)) → Stopped b c (f (get_or xs i 0)) → Stopped a c (flat_map f xs)
+pub stopped_within : {a b c : Device} (f : ℕ → List ℕ) (xs : List ℕ) (i : ℕ) → i < length xs
+    → Wrote a b (flat_map f (take i xs)) → Stopped b c (f (get_or xs i 0)) → Stopped a c (flat_map f xs)
 stopped_within {a} {b} {c} f xs i within h k =
     let P : List ℕ → Type 0 = λ l. Stopped a c l in
     let parted : flat_map f (take i xs) ++ (f (get_or xs i 0) ++ flat_map f (drop (suc i) xs)) ≡ flat_map f xs =
-    sym (flat_map-append f (take i xs) (get_or xs i 0 ∷ drop (suc i) xs)) ∙ ap (λ l. flat_map f (take i xs ++ l)) (sym (drop-cons xs i 0 within)) ∙ ap (flat_map f) (take-append-drop i xs) in
+    sym (flat_map-append f (take i xs) (get_or xs i 0 ∷ drop (suc i) xs))
+    ∙ ap (λ l. flat_map f (take i xs ++ l)) (sym (drop-cons xs i 0 within)) ∙ ap (flat_map f) (take-append-drop i xs) in
     subst P parted (stopped_then h (stopped_first (flat_map f (drop (suc i) xs)) k))
 
 -- ---- a text that is made page by page
@@ -101,32 +115,39 @@ pub making_none : (a : Device) (whole : List ℕ) → Making a a [] whole whole
 making_none a whole = record { front = []; split = refl; wrote = wrote_none a }
 
 -- a part of the rest went to the page
-pub making_more : {a b : Device} {page rest whole : List ℕ} (page' part rest' : List ℕ) → Making a b page rest whole → rest ≡ part ++ rest' → page' ≡ page ++ part → Making a b page' rest' whole
+pub making_more : {a b : Device} {page rest whole : List ℕ} (page' part rest' : List ℕ) → Making a b page rest whole
+    → rest ≡ part ++ rest' → page' ≡ page ++ part → Making a b page' rest' whole
 making_more {a} {b} {page} {rest} {whole} page' part rest' m e f = record {
   front = m.front;
-  split = m.split ∙ ap (λ l. m.front ++ (page ++ l)) e ∙ ap (λ l. m.front ++ l) (sym (append_assoc page part rest') ∙ ap (λ l. l ++ rest') (sym f));
+  split = m.split ∙ ap (λ l. m.front ++ (page ++ l)) e
+      ∙ ap (λ l. m.front ++ l) (sym (append_assoc page part rest') ∙ ap (λ l. l ++ rest') (sym f));
   wrote = m.wrote;
 }
 
 -- the page was put
-pub making_room : {a b c : Device} {page page' rest whole : List ℕ} → Making a b page rest whole → Ahead b c page page' → Making a c page' rest whole
+pub making_room : {a b c : Device} {page page' rest whole : List ℕ} → Making a b page rest whole → Ahead b c page page'
+    → Making a c page' rest whole
 making_room {a} {b} {c} {page} {page'} {rest} {whole} m h = record {
   front = m.front ++ h.front;
-  split = m.split ∙ ap (λ l. m.front ++ (l ++ rest)) h.split ∙ ap (λ l. m.front ++ l) (append_assoc h.front page' rest) ∙ sym (append_assoc m.front h.front (page' ++ rest));
+  split = m.split ∙ ap (λ l. m.front ++ (l ++ rest)) h.split ∙ ap (λ l. m.front ++ l) (append_assoc h.front page' rest)
+      ∙ sym (append_assoc m.front h.front (page' ++ rest));
   wrote = wrote_then m.wrote h.wrote;
 }
 
 -- the page was not put whole
-pub making_stopped : {a b c : Device} {page rest whole : List ℕ} → Making a b page rest whole → Stopped b c page → Stopped a c whole
+pub making_stopped : {a b c : Device} {page rest whole : List ℕ} → Making a b page rest whole → Stopped b c page
+    → Stopped a c whole
 making_stopped {a} {b} {c} {page} {rest} {whole} m h =
     let P : List ℕ → Type 0 = λ l. Stopped a c l in
     subst P (sym m.split) (stopped_then m.wrote (stopped_first rest h))
 
 -- the last page was put
-pub making_done : {a b c : Device} {page rest whole : List ℕ} → Making a b page rest whole → rest ≡ [] → Wrote b c page → Wrote a c whole
+pub making_done : {a b c : Device} {page rest whole : List ℕ} → Making a b page rest whole → rest ≡ [] → Wrote b c page
+    → Wrote a c whole
 making_done {a} {b} {c} {page} {rest} {whole} m e h =
     let P : List ℕ → Type 0 = λ l. Wrote a c l in
-    subst P (sym (m.split ∙ ap (λ l. m.front ++ (page ++ l)) e ∙ ap (λ l. m.front ++ l) (append-nil page))) (wrote_then m.wrote h)
+    subst P (sym (m.split ∙ ap (λ l. m.front ++ (page ++ l)) e ∙ ap (λ l. m.front ++ l) (append-nil page)))
+    (wrote_then m.wrote h)
 
 -- a call that returns an `Err` where its text was not written whole
 pub writes_err : {T E : Type 0} {a b : Device} (x : List ℕ) (r : Result T E) → IsErr r → Stopped a b x → Writes a b x r

@@ -1,5 +1,6 @@
 -- Two buffers that have the same bytes on a line, and on all lines.
-use Rattle.std.proofs.Common.{◌≡◌, ℕ, ◌+◌, ◌*◌, ◌/◌, ◌%◌, ◌^◌, ◌<◌, ◌↔◌, Bool, true, cond, eqb, List, length, get_or, refl, sym, ap, ◌∙◌, subst, ⊎_elim, arith, Option, Some, None}
+use Rattle.std.proofs.Common.{◌≡◌, ℕ, ◌+◌, ◌*◌, ◌/◌, ◌%◌, ◌^◌, ◌<◌, ◌↔◌, Bool, true, cond, eqb, List, length, get_or}
+use Rattle.std.proofs.Common.{refl, sym, ap, ◌∙◌, subst, ⊎_elim, arith, Option, Some, None}
 use Rattle.std.proofs.lemmas.Bool.{cases_eq, eq-eqb, ne_eqb, eqb-true, true≢false}
 use Rattle.std.proofs.lemmas.Nat.Bits.{bit_at-lt, bit_at-zero, same_from_bits_below}
 use Rattle.std.specs.Int.{bit_at}
@@ -20,7 +21,8 @@ get_on lines masks bytes line k q on at =
 get_off : (lines masks bytes : List ℕ) (line q : ℕ) → q / 64 ≡ line → place_of lines line ≡ None
     → bytes_map.get (bytes_of lines masks bytes) q ≡ None
 get_off lines masks bytes line q on none =
-    get_bytes lines masks bytes q ∙ ap (option_and_then (slot_byte masks bytes (q % 64))) (ap (place_of lines) on ∙ none)
+    get_bytes lines masks bytes q
+    ∙ ap (option_and_then (slot_byte masks bytes (q % 64))) (ap (place_of lines) on ∙ none)
 
 -- ---- a byte that is there where its bit is set
 
@@ -75,7 +77,8 @@ pub same_line : (lines masks bytes others marks stored part cut : List ℕ) (lin
 same_line lines masks bytes others marks stored part cut line k at here there from start same each q on =
     let small : q % 64 < 64 = omega arith in
     get_on lines masks bytes line k q on here
-    ∙ same_if (bit_at (get_or masks k 0) (q % 64)) (get_or bytes (k * 64 + q % 64) 0) (get_or stored (at * 64 + q % 64) 0)
+    ∙ same_if (bit_at (get_or masks k 0) (q % 64)) (get_or bytes (k * 64 + q % 64) 0)
+    (get_or stored (at * 64 + q % 64) 0)
     (λ bit. sym (from (q % 64) small) ∙ each (q % 64) small bit ∙ start (q % 64) small)
     ∙ ap (λ m. byte_if (bit_at m (q % 64)) (get_or stored (at * 64 + q % 64) 0)) same
     ∙ sym (get_on others marks stored line at q on there)
@@ -101,7 +104,8 @@ pub masks_same : (lines masks bytes others marks stored : List ℕ) (line k at :
     → get_or masks k 0 ≡ get_or marks at 0
 masks_same lines masks bytes others marks stored line k at here there fits low same =
     same_from_bits_below 64 (get_or masks k 0) (get_or marks at 0) fits low (λ o small.
-    same_bit (bit_at (get_or masks k 0) o) (bit_at (get_or marks at 0) o) (get_or bytes (k * 64 + o) 0) (get_or stored (at * 64 + o) 0)
+    same_bit (bit_at (get_or masks k 0) o) (bit_at (get_or marks at 0) o) (get_or bytes (k * 64 + o) 0)
+    (get_or stored (at * 64 + o) 0)
     (bit_at-lt (get_or masks k 0) o) (bit_at-lt (get_or marks at 0) o)
     (slots_same lines masks bytes others marks stored line k at o here there small same))
 
@@ -111,7 +115,8 @@ pub bytes_same : (lines masks bytes others marks stored part cut : List ℕ) (li
     → (o : ℕ) → o < 64 → bit_at (get_or masks k 0) o ≡ 1 → get_or part o 0 ≡ get_or cut o 0
 bytes_same lines masks bytes others marks stored part cut line k at here there from start same o small bit =
     from o small
-    ∙ same_byte (bit_at (get_or masks k 0) o) (bit_at (get_or marks at 0) o) (get_or bytes (k * 64 + o) 0) (get_or stored (at * 64 + o) 0)
+    ∙ same_byte (bit_at (get_or masks k 0) o) (bit_at (get_or marks at 0) o) (get_or bytes (k * 64 + o) 0)
+    (get_or stored (at * 64 + o) 0)
     (bit_at-lt (get_or masks k 0) o) (bit_at-lt (get_or marks at 0) o)
     (slots_same lines masks bytes others marks stored line k at o here there small same) bit
     ∙ sym (start o small)
@@ -125,7 +130,8 @@ bare_line lines masks bytes line k here none q on =
     ∙ ap (λ m. byte_if (bit_at m (q % 64)) (get_or bytes (k * 64 + q % 64) 0)) none
     ∙ ap (λ b. byte_if b (get_or bytes (k * 64 + q % 64) 0)) (bit_at-zero (q % 64))
 
-pub no_line : (lines masks bytes : List ℕ) (line : ℕ) → place_of lines line ≡ None → IsBareOn (bytes_of lines masks bytes) line
+pub no_line : (lines masks bytes : List ℕ) (line : ℕ) → place_of lines line ≡ None
+    → IsBareOn (bytes_of lines masks bytes) line
 no_line lines masks bytes line none q on = get_off lines masks bytes line q on none
 
 pub no_mask : (lines masks bytes : List ℕ) (line k : ℕ) → place_of lines line ≡ Some k → get_or masks k 0 < 2 ^ 64
@@ -135,8 +141,10 @@ no_mask lines masks bytes line k here fits bare =
     let on : (line * 64 + o) / 64 ≡ line = omega arith in
     let offset : (line * 64 + o) % 64 ≡ o = omega arith in
     let empty : slot_byte masks bytes o k ≡ None =
-    ap (λ i. slot_byte masks bytes i k) (sym offset) ∙ sym (get_on lines masks bytes line k (line * 64 + o) on here) ∙ bare (line * 64 + o) on in
-    same_bit (bit_at (get_or masks k 0) o) (bit_at 0 o) (get_or bytes (k * 64 + o) 0) 0 (bit_at-lt (get_or masks k 0) o) (bit_at-lt 0 o)
+    ap (λ i. slot_byte masks bytes i k) (sym offset) ∙ sym (get_on lines masks bytes line k (line * 64 + o) on here)
+    ∙ bare (line * 64 + o) on in
+    same_bit (bit_at (get_or masks k 0) o) (bit_at 0 o) (get_or bytes (k * 64 + o) 0) 0
+    (bit_at-lt (get_or masks k 0) o) (bit_at-lt 0 o)
     (empty ∙ sym (ap (λ b. byte_if b 0) (bit_at-zero o))))
 
 -- ---- what is answered of a line
@@ -150,7 +158,8 @@ pub both_answer : (r : Bool) (lines masks bytes others marks stored part cut : L
 both_answer r lines masks bytes others marks stored part cut line k at mask mark here there from start is was same h = (
   λ t. same_line lines masks bytes others marks stored part cut line k at here there from start (sym is ∙ same ∙ was)
       (λ o small bit. h.0 t o small (ap (λ m. bit_at m o) is ∙ bit)),
-  λ s. h.1 (λ o small bit. bytes_same lines masks bytes others marks stored part cut line k at here there from start s o small
+  λ s. h.1 (λ o small bit. bytes_same lines masks bytes others marks stored part cut line k at here there
+      from start s o small
       (ap (λ m. bit_at m o) (sym is) ∙ bit)),
 )
 
@@ -170,7 +179,8 @@ pub one_answer : (lines masks bytes others marks stored : List ℕ) (line k mask
     → place_of lines line ≡ Some k → place_of others line ≡ None → mask ≡ get_or masks k 0 → mask < 2 ^ 64
     → (eqb mask 0 ≡ true) ↔ AreSameOn (bytes_of lines masks bytes) (bytes_of others marks stored) line
 one_answer lines masks bytes others marks stored line k mask here none is fits = (
-  λ t q on. bare_line lines masks bytes line k here (sym is ∙ eqb-true mask 0 t) q on ∙ sym (no_line others marks stored line none q on),
+  λ t q on. bare_line lines masks bytes line k here (sym is ∙ eqb-true mask 0 t) q on
+      ∙ sym (no_line others marks stored line none q on),
   λ s. eq-eqb mask 0 (is ∙ no_mask lines masks bytes line k here (subst (λ n. n < 2 ^ 64) is fits)
       (λ q on. s q on ∙ no_line others marks stored line none q on)),
 )
@@ -188,17 +198,20 @@ pub held_answer : (r : Bool) (lines masks bytes others : List ℕ) (line k mask 
     → r ≡ is_some (place_of others line)
     → (r ≡ true) ↔ (place_of others line ≡ None → IsBareOn (bytes_of lines masks bytes) line)
 held_answer r lines masks bytes others line k mask here is fits some found =
-    elim (place_of others line) as (λ o. r ≡ is_some o → (r ≡ true) ↔ (o ≡ None → IsBareOn (bytes_of lines masks bytes) line)) [
+    elim (place_of others line)
+    as (λ o. r ≡ is_some o → (r ≡ true) ↔ (o ≡ None → IsBareOn (bytes_of lines masks bytes) line)) [
       | None ↦ λ e. (
         λ t. absurd (true≢false (sym t ∙ e)),
-        λ bare. absurd (some (is ∙ no_mask lines masks bytes line k here (subst (λ n. n < 2 ^ 64) is fits) (bare refl))),
+        λ bare.
+            absurd (some (is ∙ no_mask lines masks bytes line k here (subst (λ n. n < 2 ^ 64) is fits) (bare refl))),
       )
       | Some j ↦ λ e. (λ _ n. absurd (none_some j (sym n)), λ _. e)
     ] found
 
 -- the same of the buffers as they are seen
 pub same_seen : (r : Bool) (place : ℕ) (a v b w : BufferValue) → a ≡ v → b ≡ w
-    → ((r ≡ true) ↔ AreSameOn a.bytes b.bytes (get_or a.order place 0)) → (r ≡ true) ↔ AreSameOn v.bytes w.bytes (get_or v.order place 0)
+    → ((r ≡ true) ↔ AreSameOn a.bytes b.bytes (get_or a.order place 0))
+    → (r ≡ true) ↔ AreSameOn v.bytes w.bytes (get_or v.order place 0)
 same_seen r place a v b w e f h =
     subst (λ x. (r ≡ true) ↔ AreSameOn x.bytes w.bytes (get_or x.order place 0)) e
     (subst (λ y. (r ≡ true) ↔ AreSameOn a.bytes y.bytes (get_or a.order place 0)) f h)
@@ -207,8 +220,11 @@ pub bare_seen : (r : Bool) (place : ℕ) (a v b w : BufferValue) → a ≡ v →
     → ((r ≡ true) ↔ (place_of b.order (get_or a.order place 0) ≡ None → IsBareOn a.bytes (get_or a.order place 0)))
     → (r ≡ true) ↔ (place_of w.order (get_or v.order place 0) ≡ None → IsBareOn v.bytes (get_or v.order place 0))
 bare_seen r place a v b w e f h =
-    subst (λ x. (r ≡ true) ↔ (place_of w.order (get_or x.order place 0) ≡ None → IsBareOn x.bytes (get_or x.order place 0))) e
-    (subst (λ y. (r ≡ true) ↔ (place_of y.order (get_or a.order place 0) ≡ None → IsBareOn a.bytes (get_or a.order place 0))) f h)
+    subst
+    (λ x. (r ≡ true) ↔ (place_of w.order (get_or x.order place 0) ≡ None → IsBareOn x.bytes (get_or x.order place 0))) e
+    (subst
+    (λ y. (r ≡ true) ↔ (place_of y.order (get_or a.order place 0) ≡ None → IsBareOn a.bytes (get_or a.order place 0))) f
+    h)
 
 pub rest_seen : (a v : BufferValue) → a ≡ v → ((line : ℕ) → place_of a.order line ≡ None → IsBareOn a.bytes line)
     → (line : ℕ) → place_of v.order line ≡ None → IsBareOn v.bytes line
@@ -229,10 +245,11 @@ all_same lines others m n bare none each rest = same_bytes m n (λ q.
       | Some k ↦ λ at.
           let s : StandsAt lines (q / 64) k = place_in lines (q / 64) k at in
           each k s.below q (sym s.is)
-      | None ↦ λ at. bare (q / 64) at q refl ∙ sym (elim (place_of others (q / 64)) as (λ o. place_of others (q / 64) ≡ o → bytes_map.get n q ≡ None) [
-        | Some j ↦ λ there.
-            let s : StandsAt others (q / 64) j = place_in others (q / 64) j there in
-            rest j s.below (ap (place_of lines) s.is ∙ at) q (sym s.is)
-        | None ↦ λ there. none (q / 64) there q refl
-      ] refl)
+      | None ↦ λ at. bare (q / 64) at q refl
+          ∙ sym (elim (place_of others (q / 64)) as (λ o. place_of others (q / 64) ≡ o → bytes_map.get n q ≡ None) [
+            | Some j ↦ λ there.
+                let s : StandsAt others (q / 64) j = place_in others (q / 64) j there in
+                rest j s.below (ap (place_of lines) s.is ∙ at) q (sym s.is)
+            | None ↦ λ there. none (q / 64) there q refl
+          ] refl)
     ] refl)

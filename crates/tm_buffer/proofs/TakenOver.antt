@@ -1,5 +1,6 @@
 -- A buffer that takes over the next line of another.
-use Rattle.std.proofs.Common.{◌≡◌, ℕ, ◌+◌, ◌*◌, ◌/◌, ◌%◌, ◌<◌, Bool, true, false, cond, eqb, List, [], ◌∷◌, ◌++◌, length, take, get_or, set, refl, sym, ap, ◌∙◌, ⊎_elim, arith, Option, Some, None}
+use Rattle.std.proofs.Common.{◌≡◌, ℕ, ◌+◌, ◌*◌, ◌/◌, ◌%◌, ◌<◌, Bool, true, false, cond, eqb, List, [], ◌∷◌, ◌++◌}
+use Rattle.std.proofs.Common.{length, take, get_or, set, refl, sym, ap, ◌∙◌, ⊎_elim, arith, Option, Some, None}
 use Rattle.std.proofs.lemmas.Bool.{cases_eq, eq-eqb, ne_eqb}
 use Rattle.std.proofs.lemmas.List.{get_or_push, get_or-take, get_or-set_same, get_or-set_other}
 use Rattle.std.specs.Int.{bit_at}
@@ -32,7 +33,8 @@ module _ (order lines masks bytes others marks stored now : List ℕ) (part whol
     (lines_are : lines ≡ order ++ get_or others n 0 ∷ []) (room : n < length masks) (mark_is : mark ≡ get_or marks n 0)
     (now_is : (q : ℕ) → get_or now q 0 ≡ cond (eqb (q / 64) n) (get_or stored q 0) (get_or bytes q 0))
     (part_is : bytes_of lines masks bytes ≡ part) (whole_is : bytes_of others marks stored ≡ whole)
-    (is_part : (q : ℕ) → bytes_map.get part q ≡ cond (is_some (place_of order (q / 64))) (bytes_map.get whole q) None) where
+    (is_part :
+    (q : ℕ) → bytes_map.get part q ≡ cond (is_some (place_of order (q / 64))) (bytes_map.get whole q) None) where
   abbrev byte_by : ℕ → ℕ → ℕ → Option ℕ
   byte_by mask offset byte = cond (eqb (bit_at mask offset) 1) (Some byte) None
 
@@ -51,7 +53,8 @@ module _ (order lines masks bytes others marks stored now : List ℕ) (part whol
       ap (slot_byte (set masks n mark) now (q % 64)) e
       ∙ ap (λ m. byte_by m (q % 64) (get_or now (n * 64 + q % 64) 0)) (get_or-set_same masks n mark 0 room ∙ mark_is)
       ∙ ap (byte_by (get_or marks n 0) (q % 64)) (now_is (n * 64 + q % 64)
-      ∙ ap (λ t. cond t (get_or stored (n * 64 + q % 64) 0) (get_or bytes (n * 64 + q % 64) 0)) (eq-eqb ((n * 64 + q % 64) / 64) n on))
+      ∙ ap (λ t. cond t (get_or stored (n * 64 + q % 64) 0) (get_or bytes (n * 64 + q % 64) 0))
+      (eq-eqb ((n * 64 + q % 64) / 64) n on))
       ∙ sym (ap (λ m. bytes_map.get m q) (sym whole_is) ∙ get_bytes others marks stored q
       ∙ ap (option_and_then (slot_byte marks stored (q % 64))) there)
 
@@ -71,7 +74,8 @@ module _ (order lines masks bytes others marks stored now : List ℕ) (part whol
       let off : (k * 64 + q % 64) / 64 ≡ n → ⊥ = λ e. apart (omega arith) in
       ap (λ m. byte_by m (q % 64) (get_or now (k * 64 + q % 64) 0)) (get_or-set_other masks n k mark 0 apart)
       ∙ ap (byte_by (get_or masks k 0) (q % 64)) (now_is (k * 64 + q % 64)
-      ∙ ap (λ t. cond t (get_or stored (k * 64 + q % 64) 0) (get_or bytes (k * 64 + q % 64) 0)) (ne_eqb ((k * 64 + q % 64) / 64) n off))
+      ∙ ap (λ t. cond t (get_or stored (k * 64 + q % 64) 0) (get_or bytes (k * 64 + q % 64) 0))
+      (ne_eqb ((k * 64 + q % 64) / 64) n off))
       ∙ sym (get_bytes lines masks bytes q ∙ ap (option_and_then (slot_byte masks bytes (q % 64))) is)
       ∙ ap (λ m. bytes_map.get m q) part_is ∙ is_part q
       ∙ ap (λ t. cond t (bytes_map.get whole q) None) (was_there q k is apart)
@@ -79,8 +83,12 @@ module _ (order lines masks bytes others marks stored now : List ℕ) (part whol
   pub copied : (q : ℕ) → bytes_map.get (bytes_of lines (set masks n mark) now) q
       ≡ cond (is_some (place_of lines (q / 64))) (bytes_map.get whole q) None
   copied q =
-      elim (place_of lines (q / 64)) as (λ o. place_of lines (q / 64) ≡ o → bytes_map.get (bytes_of lines (set masks n mark) now) q ≡ cond (is_some o) (bytes_map.get whole q) None) [
-        | None ↦ λ is. get_bytes lines (set masks n mark) now q ∙ ap (option_and_then (slot_byte (set masks n mark) now (q % 64))) is
-        | Some k ↦ λ is. get_bytes lines (set masks n mark) now q ∙ ap (option_and_then (slot_byte (set masks n mark) now (q % 64))) is
+      elim (place_of lines (q / 64))
+      as (λ o. place_of lines (q / 64) ≡ o
+      → bytes_map.get (bytes_of lines (set masks n mark) now) q ≡ cond (is_some o) (bytes_map.get whole q) None) [
+        | None ↦ λ is. get_bytes lines (set masks n mark) now q
+            ∙ ap (option_and_then (slot_byte (set masks n mark) now (q % 64))) is
+        | Some k ↦ λ is. get_bytes lines (set masks n mark) now q
+            ∙ ap (option_and_then (slot_byte (set masks n mark) now (q % 64))) is
             ∙ ⊎_elim (λ (e : k ≡ n). at_new q k is e) (λ (e : k ≡ n → ⊥). at_old q k is e) (cases_eq k n)
       ] refl

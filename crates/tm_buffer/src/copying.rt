@@ -21,9 +21,9 @@ fn copy_place(bytes: &mut [u8], from: &[u8], place: usize)
 }
 
 impl Buffer {
-    /// Takes over the next line of another buffer, with its bytes, on this slot, which no line holds. Asked where the lines
-    /// so far are the first of the other's, with their bytes: so an empty buffer has the same bytes after as many calls as
-    /// the other has lines. Takes no memory.
+    /// Takes over the next line of another buffer, with its bytes, on this slot, which no line holds. Asked where the
+    /// lines so far are the first of the other's, with their bytes: so an empty buffer has the same bytes after as many
+    /// calls as the other has lines. Takes no memory.
     pub fn copy_next(&mut self, other: &Buffer, slot: u32)
         requires front { self.old.order ≡ take (length self.old.order) other.now.order }
         requires part { IsPartOf self.old other.now }

@@ -5,14 +5,16 @@
 //! lines and touches no byte. That memory has the addresses is the caller's to see to.
 
 ghost use Rattle.std.specs.Prelude.{◌≡◌, ◌+◌, ◌/◌, ◌^◌, ◌<◌, ◌≤◌, ◌==◌, [], ◌∷◌, ◌++◌, length, slice_index, nat_lt};
-ghost use Rattle.std.specs.Prelude.{is_err, if◌then◌else◌, IfOk, IfSome, OnOk, OnErr, IsSome, IsNone, IsTrue, unwrap_or};
+ghost use Rattle.std.specs.Prelude.{is_err, if◌then◌else◌, IfOk, IfSome, OnOk, OnErr, IsSome, IsNone, IsTrue};
+ghost use Rattle.std.specs.Prelude.{unwrap_or};
 ghost use Rattle.std.specs.Prelude.{ℕ, Option, Some, None, false, not};
 ghost use Rattle.std.specs.FinMap as bytes_map;
 ghost use Rattle.std.specs.FinSet as set;
 ghost use Rattle.ia_word.specs.Width.{bits_of, bytes_of};
 ghost use Rattle.ia_word.specs.Line.{line, last_line, lines};
 ghost use Rattle.ia_word.specs.Operand.{operand_bytes, operand_of, placed_bytes};
-ghost use Rattle.tm_buffer.specs.Buffer.{Fits, with_bytes, laid_over, memory_with, lines_of, holds, place_of, with_line};
+ghost use Rattle.tm_buffer.specs.Buffer.{Fits, with_bytes, laid_over, memory_with, lines_of, holds, place_of};
+ghost use Rattle.tm_buffer.specs.Buffer.{with_line};
 ghost use Rattle.tm_buffer.specs.Buffer.{with_lines, IsSlotOf, IsSlotOrNone, Keep, first_slot, last_slot, slots_for};
 
 use crate::fault::{Full, NoMemory};

@@ -16,7 +16,8 @@ use tm_hist::Board;
 use tm_model::CoreState;
 use tm_rule::Stop;
 
-/// What is checked of a run at its end. Conditions are judged where each core has stopped; what is not there meets none.
+/// What is checked of a run at its end. Conditions are judged where each core has stopped; what is not there meets
+/// none.
 #[derive(Debug, Drop)]
 pub enum Check {
     /// All of these conditions hold.

@@ -5,7 +5,8 @@
 
 ghost use Rattle.std.specs.Prelude.{◌≡◌, ◌≤◌, length};
 ghost use Rattle.tm_hist.specs.History.{pairs_of};
-ghost use Rattle.tm_check.specs.Counts.{are_same, count_in, is_among, is_commit, is_counted, is_of_kind, is_wanted_abort};
+ghost use Rattle.tm_check.specs.Counts.{are_same, count_in, is_among, is_commit, is_counted, is_of_kind};
+ghost use Rattle.tm_check.specs.Counts.{is_wanted_abort};
 
 use tm_hist::{Board, History};
 use tm_model::{Interference, Outcome};

@@ -1,5 +1,6 @@
 -- Conditions on a machine (docs/FORMATS.md, "Checks").
-use Rattle.std.specs.Prelude.{◌≡◌, ℕ, ◌+◌, ◌≤◌, ◌&&◌, Bool, true, not, List, All, Option, Some, None, length, nat_eq, nat_lt}
+use Rattle.std.specs.Prelude.{◌≡◌, ℕ, ◌+◌, ◌≤◌, ◌&&◌, Bool, true, not, List, All, Option, Some, None, length, nat_eq}
+use Rattle.std.specs.Prelude.{nat_lt}
 use Rattle.std.specs.Prelude.{nat_le, if◌then◌else◌, slice_index, slice_range}
 use Rattle.ia_regs.specs.declared.Regs.{Regs}
 use Rattle.ia_word.specs.Operand.{operand_of}
@@ -11,7 +12,8 @@ use Rattle.tm_condition.specs.declared.check.Check.TheVariants.{Demanded, Forbid
 use Rattle.tm_condition.specs.declared.clause.Clause.{Clause}
 use Rattle.tm_condition.specs.declared.clause.Clause.TheVariants.{Compare, Bytes}
 use Rattle.tm_condition.specs.declared.comparison.Comparison.{Comparison}
-use Rattle.tm_condition.specs.declared.comparison.Comparison.TheVariants.{Equal, NotEqual, Below, AtMost, Above, AtLeast}
+use Rattle.tm_condition.specs.declared.comparison.Comparison.TheVariants.{Equal, NotEqual, Below, AtMost, Above}
+use Rattle.tm_condition.specs.declared.comparison.Comparison.TheVariants.{AtLeast}
 use Rattle.tm_condition.specs.declared.item.Item.{Item}
 use Rattle.tm_condition.specs.declared.item.Item.TheVariants.{Register, Memory, Number}
 

@@ -1,5 +1,6 @@
 -- A machine that becomes as another one is: its cores' lines come with slots of its own sets.
-use Rattle.std.proofs.Common.{◌≡◌, ℕ, zero, suc, ◌*◌, ◌<◌, ◌≤◌, ◌^◌, Bool, true, false, cond, eqb, ◌||◌, List, [], ◌∷◌, ◌++◌, length, take, drop, get_or, Option, None, refl, sym, ap, ◌∙◌, subst, arith}
+use Rattle.std.proofs.Common.{◌≡◌, ℕ, zero, suc, ◌*◌, ◌<◌, ◌≤◌, ◌^◌, Bool, true, false, cond, eqb, ◌||◌, List, [], ◌∷◌}
+use Rattle.std.proofs.Common.{◌++◌, length, take, drop, get_or, Option, None, refl, sym, ap, ◌∙◌, subst, arith}
 use Rattle.std.specs.Prelude.{Result}
 use Rattle.std.specs.List.{list_any}
 use Rattle.std.specs.Ordering.{nat_cmp}
@@ -34,8 +35,11 @@ as_long place xs ys front below = ap length front ∙ length-take-le place ys be
 -- a buffer that has taken over all lines has the same bytes
 pub all_taken : (part whole : BufferValue) → part.order ≡ whole.order → IsPartOf part whole
     → ((q : ℕ) → holds whole.order (line q) ≡ false → map_of.get whole.bytes q ≡ None) → part.bytes ≡ whole.bytes
-all_taken part whole order is off = map_of.same_map nat_cmp_total map_of.nat_cmp-IsAntisymmetric part.bytes whole.bytes (λ q.
-    is q ∙ (elim (holds part.order (line q)) as (λ t. holds part.order (line q) ≡ t → cond t (map_of.get whole.bytes q) None ≡ map_of.get whole.bytes q) [
+all_taken part whole order is off =
+    map_of.same_map nat_cmp_total map_of.nat_cmp-IsAntisymmetric part.bytes whole.bytes (λ q.
+    is q
+    ∙ (elim (holds part.order (line q))
+    as (λ t. holds part.order (line q) ≡ t → cond t (map_of.get whole.bytes q) None ≡ map_of.get whole.bytes q) [
       | true ↦ λ e. refl
       | false ↦ λ e. sym (off q (ap (λ xs. holds xs (line q)) (sym order) ∙ e))
     ]) refl)
@@ -49,7 +53,8 @@ in_order (x ∷ xs) (suc place) below =
     or_right (eqb (get_or xs place 0) x) (list_any (eqb (get_or xs place 0)) xs) (in_order xs place (omega arith))
 
 -- a core has written lines of memory alone
-written_low : (k : Setting) (v : View) (mode : CoreState) (l : ℕ) → Sane k v mode → finset.contains v.writes l ≡ true → l * 64 < k.size
+written_low : (k : Setting) (v : View) (mode : CoreState) (l : ℕ) → Sane k v mode → finset.contains v.writes l ≡ true
+    → l * 64 < k.size
 written_low k v mode l sane has = by_mode mode sane
   where
     none : (w : View) → v ≡ w → w.writes ≡ finset.empty → l * 64 < k.size
@@ -63,26 +68,33 @@ written_low k v mode l sane has = by_mode mode sane
     by_mode (Condemned depth) s = none (view_outside (Condemned depth) v.base) s refl
     by_mode (AtStop stop) s = none (view_outside (AtStop stop) v.base) s refl
 
-pub each_written : (a : Content) (code : List ℕ) (base size : ℕ) (cpus : List Cpu) → IsSound (parts_setting code base size a) a cpus
+pub each_written : (a : Content) (code : List ℕ) (base size : ℕ) (cpus : List Cpu)
+    → IsSound (parts_setting code base size a) a cpus
     → size ≤ a.fixed.line_count * 64 → (i place : ℕ) → i < length cpus → place < length (cpu_at cpus i).buffer.order
     → IsWritten a i (get_or (cpu_at cpus i).buffer.order place 0)
 each_written a code base size cpus sound within i place below on =
     let l : ℕ = get_or (cpu_at cpus i).buffer.order place 0 in
-    let has : finset.contains (a.lines i Write) l ≡ true = sym ((sound.held i below).same l) ∙ in_order (cpu_at cpus i).buffer.order place on in
-    let low : l * 64 < size = written_low (parts_setting code base size a) (cpu_views a cpus i) (cpu_at cpus i).state l (sound.sane i below) has in
+    let has : finset.contains (a.lines i Write) l ≡ true =
+    sym ((sound.held i below).same l) ∙ in_order (cpu_at cpus i).buffer.order place on in
+    let low : l * 64 < size =
+    written_low (parts_setting code base size a) (cpu_views a cpus i) (cpu_at cpus i).state l
+    (sound.sane i below) has in
     (omega arith, has)
 
 -- ---- the machine
 
 -- machines of one program have as many cores
-pub as_many_cores : (a d : Content) (code their_code : List ℕ) (base their_base : ℕ) (m theirs : List ℕ) (cpus twins : List Cpu)
-    (old other : ShownMachine) → shown_by a code base m cpus ≡ old → shown_by d their_code their_base theirs twins ≡ other
+pub as_many_cores : (a d : Content) (code their_code : List ℕ) (base their_base : ℕ) (m theirs : List ℕ)
+    (cpus twins : List Cpu)
+    (old other : ShownMachine) → shown_by a code base m cpus ≡ old
+    → shown_by d their_code their_base theirs twins ≡ other
     → SameMachine old other → length cpus ≡ length twins
 as_many_cores a d code their_code base their_base m theirs cpus twins old other shown their_shown same =
     sym (length-views_list a 0 cpus) ∙ ap (λ (x : ShownMachine). length x.views) shown ∙ sym same.cores
     ∙ sym (ap (λ (x : ShownMachine). length x.views) their_shown) ∙ length-views_list d 0 twins
 
-module _ (a b d : Content) (code their_code : List ℕ) (base their_base : ℕ) (m m2 theirs : List ℕ) (cpus cpus2 lent twins : List Cpu)
+module _ (a b d : Content) (code their_code : List ℕ) (base their_base : ℕ) (m m2 theirs : List ℕ)
+    (cpus cpus2 lent twins : List Cpu)
     (old other : ShownMachine) (size count : ℕ)
     (shown : shown_by a code base m cpus ≡ old) (their_shown : shown_by d their_code their_base theirs twins ≡ other)
     (same : SameMachine old other) (elsewhere : length old.memory ≡ length other.memory)
@@ -121,12 +133,14 @@ module _ (a b d : Content) (code their_code : List ℕ) (base their_base : ℕ) 
   rules_here : machine_setting new ≡ machine_setting old
   rules_here =
       ap (λ n. setting_of code base n (b.fixed.room Read) (b.fixed.room Write)) same_size
-      ∙ ap (λ (x : Fixed). setting_of code base (length m) (x.room Read) (x.room Write)) fixed ∙ ap machine_setting shown
+      ∙ ap (λ (x : Fixed). setting_of code base (length m) (x.room Read) (x.room Write)) fixed
+      ∙ ap machine_setting shown
 
   pub same_copied : SameMachine old back
   same_copied = subst (SameMachine old) (sym back_is) (record {
     rules = rules_here;
-    cores = length-views_list b 0 cpus2 ∙ as_many ∙ sym (length-views_list a 0 cpus) ∙ ap (λ (x : ShownMachine). length x.views) shown;
+    cores = length-views_list b 0 cpus2 ∙ as_many ∙ sym (length-views_list a 0 cpus)
+        ∙ ap (λ (x : ShownMachine). length x.views) shown;
   })
 
   pub memory_copied : back.memory ≡ other.memory
@@ -144,22 +158,29 @@ module _ (a b d : Content) (code their_code : List ℕ) (base their_base : ℕ) 
       (λ i h.
       let below : i < length cpus2 = subst (λ n. i < n) (length-views_list b 0 cpus2) h in
       let there : i < length twins = subst (λ n. i < n) (as_many ∙ twins_many) below in
-      view_at_is b code base m2 cpus2 i below ∙ views i (among_lent i below) ∙ sym (view_at_is d their_code their_base theirs twins i there))
+      view_at_is b code base m2 cpus2 i below ∙ views i (among_lent i below)
+      ∙ sym (view_at_is d their_code their_base theirs twins i there))
 
   pub views_copied : back.views ≡ other.views
-  views_copied = ap (λ (x : ShownMachine). x.views) back_is ∙ lists_same ∙ ap (λ (x : ShownMachine). x.views) their_shown
+  views_copied =
+      ap (λ (x : ShownMachine). x.views) back_is ∙ lists_same ∙ ap (λ (x : ShownMachine). x.views) their_shown
 
   rules_there : machine_setting back ≡ machine_setting other
   rules_there = same_copied.rules ∙ sym same.rules
 
   pub stands_copied : (st : State) (doomed : ℕ → Option ℕ) → StandsFor other st doomed → StandsFor back st doomed
   stands_copied st doomed h =
-      subst (λ (vs : List View). ViewsStandFor (machine_setting back) (length vs) back.memory (λ n. get_or vs n (view_outside Running no_regs)) st doomed) (sym views_copied)
-      (subst (λ x. ViewsStandFor (machine_setting back) (length other.views) x (view_at other) st doomed) (sym memory_copied)
-      (subst (λ (k : Setting). ViewsStandFor k (length other.views) other.memory (view_at other) st doomed) (sym rules_there) h))
+      subst (λ (vs : List View). ViewsStandFor (machine_setting back) (length vs) back.memory
+      (λ n. get_or vs n (view_outside Running no_regs)) st doomed) (sym views_copied)
+      (subst (λ x. ViewsStandFor (machine_setting back) (length other.views) x (view_at other) st doomed)
+      (sym memory_copied)
+      (subst (λ (k : Setting). ViewsStandFor k (length other.views) other.memory (view_at other) st doomed)
+      (sym rules_there) h))
 
-  module _ (rows their_rows : List (Result (Insn × ℕ) DecodeFault)) (lines their_lines : List Line) (busy their_busy : Bool)
-      (was : IsMachine a code base rows lines m cpus busy) (is : IsMachine d their_code their_base their_rows their_lines theirs twins their_busy)
+  module _ (rows their_rows : List (Result (Insn × ℕ) DecodeFault)) (lines their_lines : List Line)
+      (busy their_busy : Bool)
+      (was : IsMachine a code base rows lines m cpus busy)
+      (is : IsMachine d their_code their_base their_rows their_lines theirs twins their_busy)
       (held : (i : ℕ) → i < length lent → IsHeld (b.fixed.room Write) (kept_at b cpus2 i)) where
     rules_new : parts_setting code base (length m2) b ≡ parts_setting their_code their_base (length theirs) d
     rules_new = ap machine_setting (sym back_is) ∙ rules_there ∙ ap machine_setting (sym their_shown)
@@ -171,7 +192,8 @@ module _ (a b d : Content) (code their_code : List ℕ) (base their_base : ℕ) 
     sound_new = record {
       sane = λ i h.
           subst (λ (v : View). Sane (parts_setting code base (length m2) b) v v.mode) (sym (views i (among_lent i h)))
-          (subst (λ (k : Setting). Sane k (cpu_views d twins i) (cpu_at twins i).state) (sym rules_new) (is.sound.sane i (there i h)));
+          (subst (λ (k : Setting). Sane k (cpu_views d twins i) (cpu_at twins i).state) (sym rules_new)
+          (is.sound.sane i (there i h)));
       held = λ i h. held i (among_lent i h);
     }
 
@@ -185,8 +207,10 @@ module _ (a b d : Content) (code their_code : List ℕ) (base their_base : ℕ) 
       small = subst (λ n. n < 2 ^ 32) (sym same_size) was.small;
       sound = sound_new;
       quiet = quiet_new;
-      known = subst (λ n. n ≤ b.fixed.cores) (sym as_many) (subst (λ (x : Fixed). length cpus ≤ x.cores) (sym fixed) was.known);
-      within = subst (λ n. n ≤ b.fixed.line_count * 64) (sym same_size) (subst (λ (x : Fixed). length m ≤ x.line_count * 64) (sym fixed) was.within);
+      known = subst (λ n. n ≤ b.fixed.cores) (sym as_many)
+          (subst (λ (x : Fixed). length cpus ≤ x.cores) (sym fixed) was.known);
+      within = subst (λ n. n ≤ b.fixed.line_count * 64) (sym same_size)
+          (subst (λ (x : Fixed). length m ≤ x.line_count * 64) (sym fixed) was.within);
       decoded = was.decoded;
       lined = was.lined;
       told = was.told;

@@ -1,4 +1,5 @@
-use Rattle.std.proofs.Common.{◌≡◌, ℕ, ◌<◌, Bool, true, false, cond, eqb, List, [], ◌++◌, length, map, Option, Some, None, refl, sym, ap, ◌∙◌, subst}
+use Rattle.std.proofs.Common.{◌≡◌, ℕ, ◌<◌, Bool, true, false, cond, eqb, List, [], ◌++◌, length, map, Option, Some}
+use Rattle.std.proofs.Common.{None, refl, sym, ap, ◌∙◌, subst}
 use Rattle.std.proofs.lemmas.Option.{option_and_then_some, same_Some}
 use Rattle.std.proofs.lemmas.List.{map-append}
 use Rattle.tm_rule.specs.Rule.{inside_of, load_at}
@@ -18,7 +19,8 @@ use Rattle.tm_core.specs.Machine.{shown_by}
 use Rattle.tm_core.specs.Representation.{cpu_at, cpu_views, parts_setting}
 use Rattle.tm_core.specs.StepRefinement.{add_all, seen}
 use Rattle.tm_core.specs.Theorem.{StandsFor}
-use Rattle.tm_core.specs.Types.{Aborted, AbortedBy, Access, AtStop, Begins, Begun, Capacity, Committed, Condemned, Ends, Fails}
+use Rattle.tm_core.specs.Types.{Aborted, AbortedBy, Access, AtStop, Begins, Begun, Capacity, Committed, Condemned, Ends}
+use Rattle.tm_core.specs.Types.{Fails}
 use Rattle.tm_core.specs.Types.{Goes, GoesOn, Idle, Inside, InsideResult, Loaded, Nests, Open, Outcome, OutsideResult}
 use Rattle.tm_core.specs.Types.{Plain, Read, Regs, Running, Stopped, Stops, Write}
 use Rattle.tm_core.proofs.BufferLemmas.{add_all-lines, map_seen}
@@ -38,13 +40,15 @@ reach_by k m x o = (addresses_loaded_by k m x o, addresses_stored_at k m x o)
 -- ---- outside
 
 module _ (k : Setting) (m : List ℕ) (s : Regs) where
-  by_result : (two : Bool) (o : OutsideResult) → outside_at k s m ≡ o → reach_by k m (Closed s) (owed_outside two o) ≡ reach_outside two (k.load_of s) o
+  by_result : (two : Bool) (o : OutsideResult) → outside_at k s m ≡ o
+      → reach_by k m (Closed s) (owed_outside two o) ≡ reach_outside two (k.load_of s) o
   by_result true (Goes t w) e = refl
   by_result false (Goes t w) e = ap (λ (o : OutsideResult). (k.load_of s, addresses_stored_outside o)) e
   by_result two (Begins t) e = refl
   by_result two (Stops x) e = refl
 
-  closed_reach : reach_by k m (Closed s) (owed_outcome k m (Closed s) None) ≡ reach_shown k m (view_outside Running s) Running
+  closed_reach : reach_by k m (Closed s) (owed_outcome k m (Closed s) None)
+      ≡ reach_shown k m (view_outside Running s) Running
   closed_reach = by_result (k.takes_two_steps s) (outside_at k s m) refl
 
 -- ---- inside
@@ -65,22 +69,29 @@ module _ (k : Setting) (m : List ℕ) (b : Body) where
   abbrev instruction_reach : Reached
   instruction_reach = (k.load_of b.regs, addresses_stored_next (instruction_after k m b))
 
-  in_room : (t : Bool) → by_body (Some b) (cond t Inside (abort_at Capacity b.depth)) ≡ cond t instruction_reach nothing_reached
+  in_room : (t : Bool)
+      → by_body (Some b) (cond t Inside (abort_at Capacity b.depth)) ≡ cond t instruction_reach nothing_reached
   in_room true = refl
   in_room false = refl
 
-  ends : (one t : Bool) → by_body (Some b) (cond t (cond one Committed Inside) (abort_at Capacity b.depth)) ≡ cond one nothing_reached (cond t instruction_reach nothing_reached)
+  ends : (one t : Bool)
+      → by_body (Some b) (cond t (cond one Committed Inside) (abort_at Capacity b.depth))
+      ≡ cond one nothing_reached (cond t instruction_reach nothing_reached)
   ends true true = refl
   ends true false = refl
   ends false true = refl
   ends false false = refl
 
   -- the sets that an instruction would make, by the body and by what is shown of it
-  same_room : (ws : Stores) → have_room k (lines_of (k.load_of b.regs ++ b.loads)) (lines_of (stored_addresses (ws ++ b.stores))) ≡ have_room k (add_all (read_set b) (k.load_of b.regs)) (add_all (write_set b) (stored_addresses ws))
+  same_room : (ws : Stores)
+      → have_room k (lines_of (k.load_of b.regs ++ b.loads)) (lines_of (stored_addresses (ws ++ b.stores)))
+      ≡ have_room k (add_all (read_set b) (k.load_of b.regs)) (add_all (write_set b) (stored_addresses ws))
   same_room ws =
-      ap (λ (t : Lines). have_room k t (lines_of (stored_addresses (ws ++ b.stores)))) (sym (add_all-lines b.loads (k.load_of b.regs)))
+      ap (λ (t : Lines). have_room k t (lines_of (stored_addresses (ws ++ b.stores))))
+      (sym (add_all-lines b.loads (k.load_of b.regs)))
       ∙ ap (λ (t : Lines). have_room k (add_all (read_set b) (k.load_of b.regs)) t)
-      (ap lines_of (map-append (λ (w : ℕ × ℕ). w.0) ws b.stores) ∙ sym (add_all-lines (stored_addresses b.stores) (stored_addresses ws)))
+      (ap lines_of (map-append (λ (w : ℕ × ℕ). w.0) ws b.stores)
+      ∙ sym (add_all-lines (stored_addresses b.stores) (stored_addresses ws)))
 
   abbrev room : Stores → Bool
   room ws = have_room k (lines_of (k.load_of b.regs ++ b.loads)) (lines_of (stored_addresses (ws ++ b.stores)))
@@ -88,20 +99,28 @@ module _ (k : Setting) (m : List ℕ) (b : Body) where
   abbrev shown_room : Stores → Bool
   shown_room ws = have_room k (add_all (read_set b) (k.load_of b.regs)) (add_all (write_set b) (stored_addresses ws))
 
-  open_by : (o : InsideResult) → instruction_after k m b ≡ o → by_body (Some b) (owed_inside k b o) ≡ reach_inside k (read_set b) (write_set b) b.depth (k.load_of b.regs) o
+  open_by : (o : InsideResult) → instruction_after k m b ≡ o
+      → by_body (Some b) (owed_inside k b o) ≡ reach_inside k (read_set b) (write_set b) b.depth (k.load_of b.regs) o
   open_by (Fails why) e = refl
   open_by (GoesOn t w) e =
       in_room (room (stores_of w))
       ∙ ap (λ (u : Bool). cond u instruction_reach nothing_reached) (same_room (stores_of w))
-      ∙ ap (λ (o : InsideResult). cond (shown_room (stores_of w)) (k.load_of b.regs, addresses_stored_next o) nothing_reached) e
+      ∙ ap (λ (o : InsideResult). cond (shown_room (stores_of w)) (
+        k.load_of b.regs,
+        addresses_stored_next o,
+      ) nothing_reached) e
   open_by (Nests t) e =
       in_room (room [])
       ∙ ap (λ (u : Bool). cond u instruction_reach nothing_reached) (same_room [])
       ∙ ap (λ (o : InsideResult). cond (shown_room []) (k.load_of b.regs, addresses_stored_next o) nothing_reached) e
   open_by (Ends t) e =
       ends (eqb b.depth 1) (room [])
-      ∙ ap (λ (u : Bool). cond (eqb b.depth 1) nothing_reached (cond u instruction_reach nothing_reached)) (same_room [])
-      ∙ ap (λ (o : InsideResult). cond (eqb b.depth 1) nothing_reached (cond (shown_room []) (k.load_of b.regs, addresses_stored_next o) nothing_reached)) e
+      ∙ ap (λ (u : Bool). cond (eqb b.depth 1) nothing_reached (cond u instruction_reach nothing_reached))
+      (same_room [])
+      ∙ ap (λ (o : InsideResult). cond (eqb b.depth 1) nothing_reached (cond (shown_room []) (
+        k.load_of b.regs,
+        addresses_stored_next o,
+      ) nothing_reached)) e
 
   by_outcome : (s : Regs) (n : ℕ) (o : Outcome) → reach_by k m (Opened s n) o ≡ by_body (isolated_body k s m n) o
   by_outcome s n Inside = refl
@@ -117,50 +136,72 @@ module _ (k : Setting) (m : List ℕ) (b : Body) where
 -- ---- of a state that a machine stands for, what it shows
 
 module _ (k : Setting) (sound : Sound k) (m : List ℕ) (size : length m ≡ k.size) where
-  open_reach : (s : Regs) (n : ℕ) (b : Body) → isolated_body k s m n ≡ Some b → reach_by k m (Opened s n) (owed_outcome k m (Opened s n) None) ≡ reach_shown k m (view_of_body s b) (Open b.depth)
+  open_reach : (s : Regs) (n : ℕ) (b : Body) → isolated_body k s m n ≡ Some b
+      → reach_by k m (Opened s n) (owed_outcome k m (Opened s n) None)
+      ≡ reach_shown k m (view_of_body s b) (Open b.depth)
   open_reach s n b is =
       by_outcome k m b s n (owed_after k m (isolated_body k s m n))
       ∙ ap (λ (body : Option Body). by_body k m b body (owed_after k m body)) is
       ∙ open_by k m b (instruction_after k m b) refl
-      ∙ ap (λ (bs : List ℕ). reach_inside k (read_set b) (write_set b) b.depth (k.load_of b.regs) (k.inside b.regs b.depth (k.value_of b.regs bs)))
-      (sym (map_seen m b.stores (k.load_of b.regs) (subst (λ z. InRange z b.stores) (sym size) (isolated_body-range k sound s m n b is))))
+      ∙ ap (λ (bs : List ℕ). reach_inside k (read_set b) (write_set b) b.depth (k.load_of b.regs)
+      (k.inside b.regs b.depth (k.value_of b.regs bs)))
+      (sym (map_seen m b.stores (k.load_of b.regs)
+      (subst (λ z. InRange z b.stores) (sym size) (isolated_body-range k sound s m n b is))))
 
-  pub reach_is : (x : Core) (dx : Option ℕ) (v : View) → view_of k m x dx ≡ Some v → reach_by k m x (owed_outcome k m x dx) ≡ reach_shown k m v v.mode
-  reach_is (Closed s) None v e = subst (λ (u : View). reach_by k m (Closed s) (owed_outcome k m (Closed s) None) ≡ reach_shown k m u u.mode) (same_Some (view_outside Running s) v e) (closed_reach k m s)
+  pub reach_is : (x : Core) (dx : Option ℕ) (v : View) → view_of k m x dx ≡ Some v
+      → reach_by k m x (owed_outcome k m x dx) ≡ reach_shown k m v v.mode
+  reach_is (Closed s) None v e =
+      subst (λ (u : View). reach_by k m (Closed s) (owed_outcome k m (Closed s) None) ≡ reach_shown k m u u.mode)
+      (same_Some (view_outside Running s) v e) (closed_reach k m s)
   reach_is (Closed s) (Some depth) v e = cc
   reach_is (Midway s value) None v e = midway (k.outside s value) e
     where
-      midway : (o : OutsideResult) → view_midway s value o ≡ Some v → reach_by k m (Midway s value) Plain ≡ reach_shown k m v v.mode
-      midway (Goes t w) e2 = subst (λ (u : View). reach_by k m (Midway s value) Plain ≡ reach_shown k m u u.mode) (same_Some (view_between s value) v e2) refl
+      midway : (o : OutsideResult) → view_midway s value o ≡ Some v
+          → reach_by k m (Midway s value) Plain ≡ reach_shown k m v v.mode
+      midway (Goes t w) e2 = subst (λ (u : View). reach_by k m (Midway s value) Plain ≡ reach_shown k m u u.mode)
+          (same_Some (view_between s value) v e2) refl
       midway (Begins t) e2 = cc
       midway (Stops x) e2 = cc
   reach_is (Midway s value) (Some depth) v e = cc
-  reach_is (Halted s x) None v e = subst (λ (u : View). nothing_reached ≡ reach_shown k m u u.mode) (same_Some (view_outside (AtStop x) s) v e) refl
+  reach_is (Halted s x) None v e =
+      subst (λ (u : View). nothing_reached ≡ reach_shown k m u u.mode) (same_Some (view_outside (AtStop x) s) v e) refl
   reach_is (Halted s x) (Some depth) v e = cc
-  reach_is (Opened s n) (Some depth) v e = subst (λ (u : View). nothing_reached ≡ reach_shown k m u u.mode) (same_Some (view_outside (Condemned depth) s) v e) refl
+  reach_is (Opened s n) (Some depth) v e = subst (λ (u : View). nothing_reached ≡ reach_shown k m u u.mode)
+      (same_Some (view_outside (Condemned depth) s) v e) refl
   reach_is (Opened s n) None v e =
       option_and_then_some (view_inside s) (isolated_body k s m n) v e (λ b is e2.
       let parts : (eqb b.depth 0 ≡ false) × (view_of_body s b ≡ v) = view_inside_is s b v e2 in
-      subst (λ (u : View). reach_by k m (Opened s n) (owed_outcome k m (Opened s n) None) ≡ reach_shown k m u u.mode) parts.1 (open_reach s n b is))
+      subst (λ (u : View). reach_by k m (Opened s n) (owed_outcome k m (Opened s n) None) ≡ reach_shown k m u u.mode)
+      parts.1 (open_reach s n b is))
 
 -- ---- of a machine's parts
 
 -- the reach of an open core, by the load that was made and the value that was there
-pub reach_by_load : (code : List ℕ) (base size : ℕ) (a : Content) (m : List ℕ) (v : View) (depth : ℕ) (access : Option Access) (loaded : ℕ) (o : InsideResult) → access ≡ load_at code base size v.regs →
-    loaded ≡ loaded_value access (map (seen v.buffer m) (loaded_addresses access)) → o ≡ inside_of code base size v.regs depth loaded →
-    reach_shown (parts_setting code base size a) m v (Open depth) ≡ reach_inside (parts_setting code base size a) v.reads v.writes depth (loaded_addresses access) o
+pub reach_by_load : (code : List ℕ) (base size : ℕ) (a : Content) (m : List ℕ) (v : View) (depth : ℕ)
+    (access : Option Access) (loaded : ℕ) (o : InsideResult) → access ≡ load_at code base size v.regs →
+    loaded ≡ loaded_value access (map (seen v.buffer m) (loaded_addresses access))
+    → o ≡ inside_of code base size v.regs depth loaded →
+    reach_shown (parts_setting code base size a) m v (Open depth)
+    ≡ reach_inside (parts_setting code base size a) v.reads v.writes depth (loaded_addresses access) o
 reach_by_load code base size a m v depth access loaded o is value e =
     let k : Setting = parts_setting code base size a in
-    ap (λ x. reach_inside k v.reads v.writes depth (loaded_addresses x) (inside_of code base size v.regs depth (loaded_value x (map (seen v.buffer m) (loaded_addresses x))))) (sym is)
-    ∙ ap (λ n. reach_inside k v.reads v.writes depth (loaded_addresses access) (inside_of code base size v.regs depth n)) (sym value)
+    ap (λ x. reach_inside k v.reads v.writes depth (loaded_addresses x)
+    (inside_of code base size v.regs depth (loaded_value x (map (seen v.buffer m) (loaded_addresses x))))) (sym is)
+    ∙ ap
+    (λ n. reach_inside k v.reads v.writes depth (loaded_addresses access) (inside_of code base size v.regs depth n))
+    (sym value)
     ∙ ap (reach_inside k v.reads v.writes depth (loaded_addresses access)) (sym e)
 
 -- of equal parts
-pub same_reach : (a : Content) (code code1 : List ℕ) (base : ℕ) (m m1 : List ℕ) (cpus cpus1 : List Cpu) (c : ℕ) → code1 ≡ code → m1 ≡ m → cpus1 ≡ cpus →
-    reach_shown (parts_setting code1 base (length m1) a) m1 (cpu_views a cpus1 c) (cpu_at cpus1 c).state ≡ reach_shown (parts_setting code base (length m) a) m (cpu_views a cpus c) (cpu_at cpus c).state
-same_reach a code code1 base m m1 cpus cpus1 c e f g = λ i. reach_shown (parts_setting (e i) base (length (f i)) a) (f i) (cpu_views a (g i) c) (cpu_at (g i) c).state
+pub same_reach : (a : Content) (code code1 : List ℕ) (base : ℕ) (m m1 : List ℕ) (cpus cpus1 : List Cpu) (c : ℕ)
+    → code1 ≡ code → m1 ≡ m → cpus1 ≡ cpus →
+    reach_shown (parts_setting code1 base (length m1) a) m1 (cpu_views a cpus1 c) (cpu_at cpus1 c).state
+    ≡ reach_shown (parts_setting code base (length m) a) m (cpu_views a cpus c) (cpu_at cpus c).state
+same_reach a code code1 base m m1 cpus cpus1 c e f g =
+    λ i. reach_shown (parts_setting (e i) base (length (f i)) a) (f i) (cpu_views a (g i) c) (cpu_at (g i) c).state
 
-module _ (a : Content) (code : List ℕ) (base : ℕ) (m : List ℕ) (cpus : List Cpu) (st : State) (d : ℕ → Option ℕ) (stands : StandsFor (shown_by a code base m cpus) st d) where
+module _ (a : Content) (code : List ℕ) (base : ℕ) (m : List ℕ) (cpus : List Cpu) (st : State) (d : ℕ → Option ℕ)
+    (stands : StandsFor (shown_by a code base m cpus) st d) where
   abbrev setting : Setting
   setting = parts_setting code base (length m) a
 
@@ -173,12 +214,16 @@ module _ (a : Content) (code : List ℕ) (base : ℕ) (m : List ℕ) (cpus : Lis
       ∙ ap Some (view_at_is a code base m cpus c below)
 
   -- what is told is what the model says
-  pub machine_reach : (c : ℕ) → c < length cpus → (told : Reach) → reach_told told ≡ reach_shown setting m (cpu_views a cpus c) (cpu_at cpus c).state → IsReachTold setting st.memory (st.cores c) (d c) told
+  pub machine_reach : (c : ℕ) → c < length cpus
+      → (told : Reach) → reach_told told ≡ reach_shown setting m (cpu_views a cpus c) (cpu_at cpus c).state
+      → IsReachTold setting st.memory (st.cores c) (d c) told
   machine_reach c below told e =
-      let same : reach_told told ≡ reach_by setting st.memory (st.cores c) (owed_outcome setting st.memory (st.cores c) (d c)) =
+      let same :
+      reach_told told ≡ reach_by setting st.memory (st.cores c) (owed_outcome setting st.memory (st.cores c) (d c)) =
       e
       ∙ ap (λ n. reach_shown setting n (cpu_views a cpus c) (cpu_at cpus c).state) stands.same_memory
-      ∙ sym (reach_is setting (sound code base (length m) (a.fixed.room Read) (a.fixed.room Write)) st.memory size (st.cores c) (d c) (cpu_views a cpus c) (shows c below)) in record {
+      ∙ sym (reach_is setting (sound code base (length m) (a.fixed.room Read) (a.fixed.room Write)) st.memory size
+      (st.cores c) (d c) (cpu_views a cpus c) (shows c below)) in record {
         loads = ap (λ (p : Reached). p.0) same;
         stores = ap (λ (p : Reached). p.1) same;
       }

@@ -68,7 +68,8 @@ module _ (p : Program) (old : ShownMachine) (a b : Content) (code : List ℕ) (b
       IsMachine a code base rows lines m cpus busy → IsMachine b code base rows lines bytes_back cores_back false
   reopened rows lines busy is =
       let known : length p.entries ≤ b.fixed.cores =
-      subst (λ (x : Fixed). length p.entries ≤ x.cores) (sym fixed) (subst (λ n. n ≤ a.fixed.cores) of_program is.known) in
+      subst (λ (x : Fixed). length p.entries ≤ x.cores) (sym fixed)
+      (subst (λ n. n ≤ a.fixed.cores) of_program is.known) in
       let within : length m2 ≤ b.fixed.line_count * 64 =
       subst (λ (x : Fixed). length m2 ≤ x.line_count * 64) (sym fixed)
       (subst (λ n. n ≤ a.fixed.line_count * 64) (sym same_size) is.within) in

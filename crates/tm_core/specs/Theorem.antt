@@ -1,7 +1,8 @@
 -- What a machine promises. It stands for a state of one flat memory with its doomed cores, and so it does after each
 -- step: the step is one of that memory, on which each committed transaction ran alone at its XEND (SDM volume 1,
 -- 16.2.1), with the outcome that is owed. What each of these words means stands in tm_model.
-use Rattle.std.specs.Prelude.{◌≡◌, ℕ, zero, suc, ◌<◌, List, [], ◌∷◌, ◌++◌, All, length, slice_index_or, Option, Some, None}
+use Rattle.std.specs.Prelude.{◌≡◌, ℕ, zero, suc, ◌<◌, List, [], ◌∷◌, ◌++◌, All, length, slice_index_or, Option, Some}
+use Rattle.std.specs.Prelude.{None}
 use Rattle.ia_image.specs.Program.{ProgramValue as Program}
 use Rattle.tm_rule.specs.declared.kinds.Stop.{Stop}
 use Rattle.tm_sets.specs.declared.interface.Kind.{Kind}

@@ -47,9 +47,9 @@ fn is_alike<S: Sets>(cpu: &Cpu, sets: &S, twin: &Cpu, twin_sets: &S, core: u8) -
 }
 
 impl<S: Sets> Machine<S> {
-    /// Whether another machine shows a core as this one does: what it is doing, its registers before its transaction and
-    /// now, the value between the two steps of an instruction, and the bytes and the lines of its transaction. Takes no
-    /// memory; the time is that of the transaction's lines.
+    /// Whether another machine shows a core as this one does: what it is doing, its registers before its transaction
+    /// and now, the value between the two steps of an instruction, and the bytes and the lines of its transaction.
+    /// Takes no memory; the time is that of the transaction's lines.
     pub fn is_core_alike(&self, other: &Machine<S>, core: u8) -> bool
         requires here { core < length self.now.views }
         requires there { core < length other.now.views }

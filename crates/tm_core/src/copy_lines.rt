@@ -63,7 +63,8 @@ fn copy_core<S: Sets>(cpu: &mut Cpu, sets: &mut S, twin: &Cpu, twin_sets: &S, co
     requires room { cpu.old.buffer.room ≡ (S.content sets.old).fixed.room Write }
     requires lines { (place : ℕ) → place < length twin.now.buffer.order →
         IsWritten (S.content twin_sets.now) core (slice_index twin.now.buffer.order place) }
-    requires held { IsHeld ((S.content twin_sets.now).fixed.room Write) (kept_of (S.content twin_sets.now) core twin.now) }
+    requires held { IsHeld ((S.content twin_sets.now).fixed.room Write)
+        (kept_of (S.content twin_sets.now) core twin.now) }
     ensures view { cpu_view (S.content sets.new) core cpu.new ≡ cpu_view (S.content twin_sets.now) core twin.now }
     ensures held { IsHeld ((S.content sets.new).fixed.room Write) (kept_of (S.content sets.new) core cpu.new) }
     ensures elsewhere { Elsewhere (S.content sets.old) (S.content sets.new) core }
@@ -101,10 +102,10 @@ fn copy_cores<S: Sets>(cpus: &mut [Cpu], sets: &mut S, twins: &[Cpu], twin_sets:
 }
 
 impl<S: Sets> Machine<S> {
-    /// Becomes as another machine of the same program is: its memory, where the two may differ on some lines of 64 bytes,
-    /// and its cores with their transactions. False, and nothing changed, where the two were made over sets of other
-    /// sizes. Takes no memory; the time is that of these lines and of the lines of the cores' sets, whatever the size of
-    /// memory.
+    /// Becomes as another machine of the same program is: its memory, where the two may differ on some lines of 64
+    /// bytes, and its cores with their transactions. False, and nothing changed, where the two were made over sets of
+    /// other sizes. Takes no memory; the time is that of these lines and of the lines of the cores' sets, whatever the
+    /// size of memory.
     pub fn copy_lines(&mut self, other: &Machine<S>, lines: &[u32]) -> bool
         requires same { SameMachine self.old other.now }
         requires elsewhere { IsSameElsewhere lines.now self.old.memory other.now.memory }

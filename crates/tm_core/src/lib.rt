@@ -11,27 +11,26 @@
 //! A step is explained by calls that are asked before it, and that change nothing: `Machine::preview` (which bytes it
 //! loads and stores, and why it is an abort), `Machine::hit_by` (whom a previewed step hits, on which line),
 //! `Machine::may_hit` (whether it may hit anybody) and `Machine::counts` (how large the sets are). `Machine::hit`,
-//! `Machine::abort_reason` and `Machine::reach` tell one thing of a preview of their own. `Machine::seen` tells a byte of
-//! memory as a core sees it, `Machine::kept` the value between the two steps of an instruction, and
+//! `Machine::abort_reason` and `Machine::reach` tell one thing of a preview of their own. `Machine::seen` tells a byte
+//! of memory as a core sees it, `Machine::kept` the value between the two steps of an instruction, and
 //! `Machine::is_core_alike` whether another machine shows a core as this one.
 //!
-//! `Machine::step_under` makes a step under an event: an abort from outside of the program, which hardware may do at any
-//! time. All other calls make steps under none, and promise that they tell of no such abort; and what is asked before a
-//! step speaks of the step under none.
+//! `Machine::step_under` makes a step under an event: an abort from outside of the program, which hardware may do at
+//! any time. All other calls make steps under none, and promise that they tell of no such abort; and what is asked
+//! before a step speaks of the step under none.
 //!
 //! `Machine::transact` makes the steps of a whole transaction as one, where no other core steps between: on memory in
-//! place where no core is open (`tm_whole`), and else its instructions run on registers alone, and its stores go to memory
-//! at its XEND. Its proof goes by the isolated body of `tm_model`, which is what it runs (`specs/AtOnce.antt`).
-//! `Machine::steps_on_registers` makes as many steps outside of transactions as touch
-//! no memory, which no other core sees. `Machine::steps_alone` makes steps of any kind of one core, one behind the other, as
-//! one call: in place where no other core sees them (`specs/InPlace.antt`), and else as the two calls above and as
-//! `Machine::step`.
+//! place where no core is open (`tm_whole`), and else its instructions run on registers alone, and its stores go to
+//! memory at its XEND. Its proof goes by the isolated body of `tm_model`, which is what it runs (`specs/AtOnce.antt`).
+//! `Machine::steps_on_registers` makes as many steps outside of transactions as touch no memory, which no other core
+//! sees. `Machine::steps_alone` makes steps of any kind of one core, one behind the other, as one call: in place where
+//! no other core sees them (`specs/InPlace.antt`), and else as the two calls above and as `Machine::step`.
 //!
 //! Stands on `tm_rule` (one instruction), `tm_status`, `tm_sets` (read and write sets), `tm_buffer` (a transaction's
 //! bytes) and `ia_image` (programs). Memory is asked for only where a machine is made and by the answers of `run` and
 //! `sets`; `Machine::reopen` takes a machine back before its first step in place of a new one, and
-//! `Machine::reopen_lines` by the lines of memory that may have changed (`specs/Reopening.antt`). `Machine::copy_lines` makes
-//! it as another machine of the same program is.
+//! `Machine::reopen_lines` by the lines of memory that may have changed (`specs/Reopening.antt`). `Machine::copy_lines`
+//! makes it as another machine of the same program is.
 #![tactic(auto)]
 
 mod alike;

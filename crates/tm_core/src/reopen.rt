@@ -63,10 +63,10 @@ pub fn reopen_cpus<S: Sets>(cpus: &mut [Cpu], sets: &mut S, program: &Program)
 }
 
 impl<S: Sets> Machine<S> {
-    /// Takes the machine back before its first step: memory as the program's image makes it, and each core at its entry,
-    /// in no transaction. The code and the limits stay as they are, so that a machine that was opened with this program is
-    /// then as [`Machine::new`] left it. Asked for a program with as many cores and bytes of memory as the machine has.
-    /// Takes no memory, and looks at no line of the sets that no core has.
+    /// Takes the machine back before its first step: memory as the program's image makes it, and each core at its
+    /// entry, in no transaction. The code and the limits stay as they are, so that a machine that was opened with this
+    /// program is then as [`Machine::new`] left it. Asked for a program with as many cores and bytes of memory as the
+    /// machine has. Takes no memory, and looks at no line of the sets that no core has.
     pub fn reopen(&mut self, program: &Program)
         requires cores { length self.old.views ≡ length program.now.entries }
         requires size { length self.old.memory ≡ program.now.mem_size }

@@ -50,9 +50,9 @@ pub fn reopen_each(memory: &mut [u8], opening: &[u8], lines: &[u32])
 }
 
 impl<S: Sets> Machine<S> {
-    /// The same as [`Machine::reopen`] where memory is as the program's image makes it but on some lines of 64 bytes: it
-    /// takes time for these lines, and for the lines of the cores' sets, whatever the size of memory. Asked with memory as
-    /// the image makes it (see [`opening_memory`](crate::opening_memory)).
+    /// The same as [`Machine::reopen`] where memory is as the program's image makes it but on some lines of 64 bytes:
+    /// it takes time for these lines, and for the lines of the cores' sets, whatever the size of memory. Asked with
+    /// memory as the image makes it (see [`opening_memory`](crate::opening_memory)).
     pub fn reopen_lines(&mut self, program: &Program, opening: &[u8], lines: &[u32])
         requires cores { length self.old.views ≡ length program.now.entries }
         requires opening { opening.now ≡ memory_of program.now }

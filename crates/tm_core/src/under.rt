@@ -21,8 +21,8 @@ use tm_rule::Code;
 use tm_sets::{Kind, Sets};
 use tm_status::status;
 
-// The abort of core c, which is in a transaction of this depth, from outside of the program: what it does to what each core
-// shows.
+// The abort of core c, which is in a transaction of this depth, from outside of the program: what it does to what each
+// core shows.
 #[inline(never)]
 fn abort_by<S: Sets>(
     code: &Code,
@@ -51,9 +51,9 @@ fn abort_by<S: Sets>(
 }
 
 impl<S: Sets> Machine<S> {
-    /// One step of a core under an event. Where the core is in a transaction that is not condemned, `Event::Abort` aborts
-    /// it, whatever its next instruction is; anywhere else nothing is befallen, and the step is that of [`Machine::step`]
-    /// (SDM volume 1, 16.3.8). `NoSuchCore` (42) where there is none of this number. Takes no memory.
+    /// One step of a core under an event. Where the core is in a transaction that is not condemned, `Event::Abort`
+    /// aborts it, whatever its next instruction is; anywhere else nothing is befallen, and the step is that of
+    /// [`Machine::step`] (SDM volume 1, 16.3.8). `NoSuchCore` (42) where there is none of this number. Takes no memory.
     pub fn step_under(&mut self, core: u8, event: Event) -> Result<Outcome, NoSuchCore>
         ensures exists { IsOk result ↔ (core < length self.old.views) }
         ensures same { SameMachine self.old self.new }

@@ -8,7 +8,8 @@ ghost use Rattle.std.specs.Prelude.{◌≡◌, ◌==◌, ◌++◌, ◌<◌, IfSo
 ghost use Rattle.std.specs.List.{position};
 ghost use Rattle.arrayvec.specs.ArrayVec.{array_vec_len};
 ghost use Rattle.text_out.specs.Writing.{Writes};
-ghost use Rattle.tm_debug.specs.Session.{StepAnswer, TellsAnswer, break_front, break_line, core_named, cores_of, done_line};
+ghost use Rattle.tm_debug.specs.Session.{StepAnswer, TellsAnswer, break_front, break_line, core_named, cores_of};
+ghost use Rattle.tm_debug.specs.Session.{done_line};
 ghost use Rattle.tm_debug.specs.Session.{list_answer, mem_answer, ok_line, value_of, regs_answer, set_break};
 ghost use Rattle.tm_debug.specs.Session.{run_ending, some_lines, unset_break};
 ghost use Rattle.debug_command.specs.Places.{place_text};

@@ -36,7 +36,8 @@ fn take_back(alloc: Global, state: &mut SessionState, count: u64) -> Result<(), 
     ensures err { OnErr result (value_of state.new ≡ value_of state.old) }
 {
     let left = state.board.made() - count;
-    // A board that was made has limits within their ranges, and its history cores of its program: what is refused is memory.
+    // A board that was made has limits within their ranges, and its history cores of its program: what is refused is
+    // memory.
     let Ok(first) = first_steps(alloc, &state.board, left) else {
         return Err(AllocError);
     };

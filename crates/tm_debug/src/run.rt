@@ -55,7 +55,8 @@ fn run_steps<O: Out>(
     Ok(())
 }
 
-/// So many steps, of the cores in turn that have not stopped or by the picks of the plan, or fewer where a test ends the run.
+/// So many steps, of the cores in turn that have not stopped or by the picks of the plan, or fewer where a test ends
+/// the run.
 pub fn run<O: Out>(
     state: &mut SessionState,
     way: Way,

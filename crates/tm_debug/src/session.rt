@@ -7,7 +7,8 @@
 
 ghost use Rattle.std.specs.Prelude.{◌≡◌, ℕ, List, Err, IfErr, IfOk, MatchResult, OnOk};
 ghost use Rattle.text_out.specs.Writing.{Rose, Stopped, Writes, Wrote};
-ghost use Rattle.tm_debug.specs.Session.{Answers, AnswersBroken, Ends, SessionValue, bye_line, value_of, start, start_in};
+ghost use Rattle.tm_debug.specs.Session.{Answers, AnswersBroken, Ends, SessionValue, bye_line, value_of, start};
+ghost use Rattle.tm_debug.specs.Session.{start_in};
 ghost use Rattle.tm_debug.specs.Serving.{BehindPrompt, FailsToRead, FailsToWrite, FailsToWriteIn, FindsNoMemory};
 ghost use Rattle.tm_debug.specs.Serving.{IsLine, Replies, RepliesBroken, Responds, RespondsBroken, ServesInput};
 ghost use Rattle.tm_debug.specs.Serving.{TakesMemory, WantsMemory, request_of};
@@ -44,8 +45,8 @@ pub enum SessionFault {
     /// missing; of a run, a rest of the outcome line of its last step.
     #[error("Write")]
     Write(Board),
-    /// There was no memory for the answer to `sets`, or for the board of `back` or `why` (78). The answers before it were
-    /// written.
+    /// There was no memory for the answer to `sets`, or for the board of `back` or `why` (78). The answers before it
+    /// were written.
     #[error("NoMemory")]
     NoMemory(Board),
 }
@@ -371,10 +372,10 @@ pub fn serve<W: Wait, I: In, O: Out>(
     Session::new(board, input, out).serve(rt, alloc)
 }
 
-/// Answers the lines of an input with a board in this manner: plainly as [`serve`] does, or spoken, with a prompt before
-/// each line is read. The plan has the core of each step that `next` makes: the first is that of the board's first step. Commands
-/// may write addresses by the names' symbols, and the answers of a spoken session tell them by the names' labels, and
-/// of each step what it did.
+/// Answers the lines of an input with a board in this manner: plainly as [`serve`] does, or spoken, with a prompt
+/// before each line is read. The plan has the core of each step that `next` makes: the first is that of the board's
+/// first step. Commands may write addresses by the names' symbols, and the answers of a spoken session tell them by the
+/// names' labels, and of each step what it did.
 pub fn serve_in<W: Wait, I: In, O: Out>(
     rt: &W,
     alloc: Global,
@@ -386,19 +387,23 @@ pub fn serve_in<W: Wait, I: In, O: Out>(
     out: &mut O,
 ) -> Result<Board, SessionFault>
     ensures ok { IfOk result (λ last. BehindPrompt manner (O.device out.old) (λ begun. ServesInput
-        (I.remaining input.old) (I.remaining input.new) (start_in manner plan.items names.symbols.items names.labels.items board) begun (O.device out.new) last)) }
+        (I.remaining input.old) (I.remaining input.new)
+        (start_in manner plan.items names.symbols.items names.labels.items board) begun (O.device out.new) last)) }
     ensures read { IfErr result (λ fault. session_code fault ≡ 76 → Rose (I.failed input.old) (I.failed input.new)) }
     ensures read_lines { IfErr result (λ fault. session_code fault ≡ 76
         → BehindPrompt manner (O.device out.old) (λ begun. FailsToRead (I.remaining input.old)
-        (I.remaining input.new) (start_in manner plan.items names.symbols.items names.labels.items board) begun (O.device out.new) (session_board fault))) }
+        (I.remaining input.new) (start_in manner plan.items names.symbols.items names.labels.items board) begun
+        (O.device out.new) (session_board fault))) }
     ensures write { IfErr result (λ fault. session_code fault ≡ 77
         → Rose (O.device out.old).failures (O.device out.new).failures) }
     ensures written { IfErr result (λ fault. session_code fault ≡ 77
-        → FailsToWriteIn manner (I.remaining input.old) (I.remaining input.new) (start_in manner plan.items names.symbols.items names.labels.items board)
+        → FailsToWriteIn manner (I.remaining input.old) (I.remaining input.new)
+        (start_in manner plan.items names.symbols.items names.labels.items board)
         (O.device out.old) (O.device out.new) (session_board fault)) }
     ensures memory { IfErr result (λ fault. session_code fault ≡ 78
         → BehindPrompt manner (O.device out.old) (λ begun. FindsNoMemory (I.remaining input.old)
-        (I.remaining input.new) (start_in manner plan.items names.symbols.items names.labels.items board) begun (O.device out.new) (session_board fault))) }
+        (I.remaining input.new) (start_in manner plan.items names.symbols.items names.labels.items board) begun
+        (O.device out.new) (session_board fault))) }
 {
     match prompt(manner, out) {
         Ok(()) => serve_from(

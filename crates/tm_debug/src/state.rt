@@ -4,7 +4,8 @@
 //! there is room for the step, and whether the core is at a breakpoint. [`SessionState::step`] asks nothing of
 //! this, as for a step that was requested by itself, and notes whose turn is next. Nothing is read or written here.
 
-ghost use Rattle.std.specs.Prelude.{◌≡◌, ◌↔◌, ℕ, ◌+◌, ◌<◌, ◌≤◌, ◌^◌, ◌++◌, ◌∷◌, [], Err, IfOk, IfSome, OnErr, Some, is_some};
+ghost use Rattle.std.specs.Prelude.{◌≡◌, ◌↔◌, ℕ, ◌+◌, ◌<◌, ◌≤◌, ◌^◌, ◌++◌, ◌∷◌, [], Err, IfOk, IfSome, OnErr, Some};
+ghost use Rattle.std.specs.Prelude.{is_some};
 ghost use Rattle.std.specs.Prelude.{length};
 ghost use Rattle.tm_hist.specs.Board.{IsFull, IsOwedNext, SameBoard, stop_shown};
 ghost use Rattle.tm_hist.specs.Machine.{shown_regs, shown_state};
@@ -20,8 +21,8 @@ use tm_model::{CoreState, Outcome, Pick};
 /// The most breakpoints that are set at once.
 pub const MOST_BREAKPOINTS: usize = 64;
 
-/// How the session speaks, its plan, the names of its program, its board, its breakpoints, and the number behind that of the core
-/// that was stepped last.
+/// How the session speaks, its plan, the names of its program, its board, its breakpoints, and the number behind that
+/// of the core that was stepped last.
 #[derive(Drop)]
 pub struct SessionState {
     pub manner: Manner,

@@ -21,7 +21,8 @@ use text_out::text_line::TextLine;
 use text_out::{Out, WriteFault};
 use tm_why::{Reason, reason_of, watched, write_reason};
 
-/// Tells why the next step of a core is an abort, where it is one, by the steps that were made, which are made once more.
+/// Tells why the next step of a core is an abort, where it is one, by the steps that were made, which are made once
+/// more.
 pub fn why<O: Out>(
     alloc: Global,
     state: &SessionState,

@@ -1,5 +1,6 @@
 -- A core's step, under an event or under none, is idle exactly where the core has stopped.
-use Rattle.std.proofs.Common.{◌≡◌, ℕ, ◌<◌, Bool, true, false, cond, eqb, List, [], ◌++◌, length, Option, Some, None, refl, sym, ap, ◌∙◌}
+use Rattle.std.proofs.Common.{◌≡◌, ℕ, ◌<◌, Bool, true, false, cond, eqb, List, [], ◌++◌, length, Option, Some, None}
+use Rattle.std.proofs.Common.{refl, sym, ap, ◌∙◌}
 use Rattle.std.specs.Prelude.{◌↔◌}
 use Rattle.std.proofs.lemmas.Option.{option_and_then_some, same_Some}
 use Rattle.ia_regs.specs.declared.Regs.{Regs}
@@ -33,7 +34,8 @@ outside_moves false (Goes s w) e = cc
 
 room_moves : (k : Setting) (b : Body) (w : Stores) (o : Outcome) → (o ≡ Idle → ⊥) → owed_with_room k b w o ≡ Idle → ⊥
 room_moves k b w o moves =
-    elim (have_room k (lines_of (k.load_of b.regs ++ b.loads)) (lines_of (stored_addresses (w ++ b.stores)))) as (λ t. cond t o (abort_at Capacity b.depth) ≡ Idle → ⊥) [
+    elim (have_room k (lines_of (k.load_of b.regs ++ b.loads)) (lines_of (stored_addresses (w ++ b.stores))))
+    as (λ t. cond t o (abort_at Capacity b.depth) ≡ Idle → ⊥) [
       | true ↦ moves
       | false ↦ λ e. cc
     ]
@@ -52,34 +54,45 @@ inside_moves k b (Ends s) e = room_moves k b [] (cond (eqb b.depth 1) Committed 
 abbrev ShowsStop : View → Type 0
 ShowsStop v = (why : Stop) × (stop_shown v.mode ≡ Some why)
 
-idle_stops : (k : Setting) (m : List ℕ) (x : Core) (dx : Option ℕ) (v : View) → view_of k m x dx ≡ Some v → owed_outcome k m x dx ≡ Idle → ShowsStop v
-idle_stops k m (Halted s why) None v e i = (why, ap (λ (u : View). stop_shown u.mode) (sym (same_Some (view_outside (AtStop why) s) v e)))
+idle_stops : (k : Setting) (m : List ℕ) (x : Core) (dx : Option ℕ) (v : View) → view_of k m x dx ≡ Some v
+    → owed_outcome k m x dx ≡ Idle → ShowsStop v
+idle_stops k m (Halted s why) None v e i =
+    (why, ap (λ (u : View). stop_shown u.mode) (sym (same_Some (view_outside (AtStop why) s) v e)))
 idle_stops k m (Halted s why) (Some depth) v e i = absurd (cc)
 idle_stops k m (Closed s) None v e i = absurd (outside_moves (k.takes_two_steps s) (outside_at k s m) i)
 idle_stops k m (Closed s) (Some depth) v e i = absurd (cc)
 idle_stops k m (Midway s value) None v e i = absurd (cc)
 idle_stops k m (Midway s value) (Some depth) v e i = absurd (cc)
 idle_stops k m (Opened s n) (Some depth) v e i = absurd (cc)
-idle_stops k m (Opened s n) None v e i = absurd (option_and_then_some (view_inside s) (isolated_body k s m n) v e (λ b is e2. inside_moves k b (instruction_after k m b) (ap (owed_after k m) (sym is) ∙ i)))
+idle_stops k m (Opened s n) None v e i = absurd (option_and_then_some (view_inside s) (isolated_body k s m n) v e
+    (λ b is e2. inside_moves k b (instruction_after k m b) (ap (owed_after k m) (sym is) ∙ i)))
 
 -- no abort by an event is idle
-idle_stops_under : (event : Option Event) (k : Setting) (m : List ℕ) (x : Core) (dx : Option ℕ) (v : View) → view_of k m x dx ≡ Some v → owed_under event k m x dx ≡ Idle → ShowsStop v
+idle_stops_under : (event : Option Event) (k : Setting) (m : List ℕ) (x : Core) (dx : Option ℕ) (v : View)
+    → view_of k m x dx ≡ Some v → owed_under event k m x dx ≡ Idle → ShowsStop v
 idle_stops_under None k m x dx v e i = idle_stops k m x dx v e i
 idle_stops_under (Some (event.Abort by)) k m (Opened s n) None v e i = absurd (cc)
-idle_stops_under (Some (event.Abort by)) k m (Opened s n) (Some depth) v e i = idle_stops k m (Opened s n) (Some depth) v e i
+idle_stops_under (Some (event.Abort by)) k m (Opened s n) (Some depth) v e i =
+    idle_stops k m (Opened s n) (Some depth) v e i
 idle_stops_under (Some (event.Abort by)) k m (Closed s) dx v e i = idle_stops k m (Closed s) dx v e i
 idle_stops_under (Some (event.Abort by)) k m (Midway s value) dx v e i = idle_stops k m (Midway s value) dx v e i
 idle_stops_under (Some (event.Abort by)) k m (Halted s why) dx v e i = idle_stops k m (Halted s why) dx v e i
 
-halted_idles : (event : Option Event) (k : Setting) (m : List ℕ) (s : Regs) (why : Stop) (dx : Option ℕ) → owed_under event k m (Halted s why) dx ≡ Idle
+halted_idles : (event : Option Event) (k : Setting) (m : List ℕ) (s : Regs) (why : Stop) (dx : Option ℕ)
+    → owed_under event k m (Halted s why) dx ≡ Idle
 halted_idles None k m s why dx = refl
 halted_idles (Some (event.Abort by)) k m s why dx = refl
 
-pub idle_exactly : (event : Option Event) (old new : Machine) (a : State) (d : ℕ → Option ℕ) (c : ℕ) (o : Outcome) → StandsFor old a d → c < length old.views → TakesStepUnder event old new a d c o →
+pub idle_exactly : (event : Option Event) (old new : Machine) (a : State) (d : ℕ → Option ℕ) (c : ℕ) (o : Outcome)
+    → StandsFor old a d → c < length old.views → TakesStepUnder event old new a d c o →
     (o ≡ Idle) ↔ ShowsStop (view_at old c)
 idle_exactly event old new a d c o stands below takes = (
-  λ idle. idle_stops_under event (machine_setting old) a.memory (a.cores c) (d c) (view_at old c) (stands.each c below) (sym takes.is_owed ∙ idle),
+  λ idle. idle_stops_under event (machine_setting old) a.memory (a.cores c) (d c) (view_at old c) (stands.each c below)
+      (sym takes.is_owed ∙ idle),
   λ shows.
-      let h : IsHalted (a.cores c) (d c) shows.0 = is_halted (machine_setting old) a.memory shows.0 (a.cores c) (d c) (view_at old c) (stands.each c below) shows.1 in
-      takes.is_owed ∙ ap (λ x. owed_under event (machine_setting old) a.memory x (d c)) h.core ∙ halted_idles event (machine_setting old) a.memory h.regs shows.0 (d c),
+      let h : IsHalted (a.cores c) (d c) shows.0 =
+      is_halted (machine_setting old) a.memory shows.0 (a.cores c) (d c) (view_at old c)
+      (stands.each c below) shows.1 in
+      takes.is_owed ∙ ap (λ x. owed_under event (machine_setting old) a.memory x (d c)) h.core
+      ∙ halted_idles event (machine_setting old) a.memory h.regs shows.0 (d c),
 )

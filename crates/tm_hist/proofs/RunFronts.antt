@@ -61,7 +61,8 @@ module _ (code : List ℕ) (base size reads writes : ℕ) where
   same_moved m (Opened s n) (AbortedBy by status) = refl
 
   same_step : (a : State) (c : ℕ) (o : Outcome) → step limited a c o ≡ step free a c o
-  same_step a c o = ap (λ x. cond (ltb c a.count) (option_map (state_with a c) x) None) (same_moved a.memory (a.cores c) o)
+  same_step a c o =
+      ap (λ x. cond (ltb c a.count) (option_map (state_with a c) x) None) (same_moved a.memory (a.cores c) o)
 
   same_then : (ps : List (ℕ × Outcome)) → ((a : State) → run limited a ps ≡ run free a ps) → (x : Option State) →
       option_and_then (λ b. run limited b ps) x ≡ option_and_then (λ b. run free b ps) x
@@ -70,14 +71,18 @@ module _ (code : List ℕ) (base size reads writes : ℕ) where
 
   pub same_run : (ps : List (ℕ × Outcome)) (a : State) → run limited a ps ≡ run free a ps
   same_run [] a = refl
-  same_run (p ∷ ps) a = same_then ps (same_run ps) (step limited a p.0 p.1) ∙ ap (option_and_then (λ b. run free b ps)) (same_step a p.0 p.1)
+  same_run (p ∷ ps) a = same_then ps (same_run ps) (step limited a p.0 p.1)
+      ∙ ap (option_and_then (λ b. run free b ps)) (same_step a p.0 p.1)
 
-front_then : (k : Setting) (ps : List (ℕ × Outcome)) (i : ℕ) → ((a end : State) → run k a ps ≡ Some end → run k a (take i ps) ≡ None → ⊥) →
-    (x : Option State) (end : State) → option_and_then (λ b. run k b ps) x ≡ Some end → option_and_then (λ b. run k b (take i ps)) x ≡ None → ⊥
+front_then : (k : Setting) (ps : List (ℕ × Outcome)) (i : ℕ)
+    → ((a end : State) → run k a ps ≡ Some end → run k a (take i ps) ≡ None → ⊥) →
+    (x : Option State) (end : State) → option_and_then (λ b. run k b ps) x ≡ Some end
+    → option_and_then (λ b. run k b (take i ps)) x ≡ None → ⊥
 front_then k ps i f None end h g = cc
 front_then k ps i f (Some b) end h g = f b end h g
 
-pub run_front : (k : Setting) (ps : List (ℕ × Outcome)) (i : ℕ) (a end : State) → run k a ps ≡ Some end → run k a (take i ps) ≡ None → ⊥
+pub run_front : (k : Setting) (ps : List (ℕ × Outcome)) (i : ℕ) (a end : State) → run k a ps ≡ Some end
+    → run k a (take i ps) ≡ None → ⊥
 run_front k [] zero a end h g = cc
 run_front k [] (suc i) a end h g = cc
 run_front k (p ∷ ps) zero a end h g = cc

@@ -4,7 +4,8 @@
 //! that its outcome tells of. The board that is given stays as it is. The outcomes are not compared with those of
 //! the history: both boards are runs of the same steps ([`Board::is_run`]).
 
-ghost use Rattle.std.specs.Prelude.{◌≡◌, ◌↔◌, ◌+◌, ◌++◌, ◌<◌, ◌≤◌, ◌∷◌, [], Err, IfOk, OnErr, OnOk, false, length, true};
+ghost use Rattle.std.specs.Prelude.{◌≡◌, ◌↔◌, ◌+◌, ◌++◌, ◌<◌, ◌≤◌, ◌∷◌, [], Err, IfOk, OnErr, OnOk, false, length};
+ghost use Rattle.std.specs.Prelude.{true};
 ghost use Rattle.tm_core.specs.Machine.{bad_limits};
 ghost use Rattle.tm_hist.specs.Back.{HasStranger, IsFirst};
 ghost use Rattle.tm_hist.specs.Board.{IsFull, IsNew, IsOwedNext, SameBoard, bad_limit};
@@ -17,8 +18,8 @@ use tm_model::{Outcome, Pick};
 /// Why the first steps were not made once more.
 #[derive(Clone, Copy, PartialEq, Eq, Debug, Drop, Error)]
 pub enum BackFault {
-    /// There is no second board of the same program and limits: for want of memory, or as the given one's limits are out of
-    /// range.
+    /// There is no second board of the same program and limits: for want of memory, or as the given one's limits are
+    /// out of range.
     #[error("{0}")]
     NoBoard(BoardFault),
     /// A step of the history is of a core that the program has not.
@@ -26,10 +27,11 @@ pub enum BackFault {
     NoSuchCore,
 }
 
-/// A board of the same program and limits after the first so many steps of a board's history, all of them where there are
-/// fewer. The steps are made once more, each under the event that its outcome tells of, at the cost of a step each.
+/// A board of the same program and limits after the first so many steps of a board's history, all of them where there
+/// are fewer. The steps are made once more, each under the event that its outcome tells of, at the cost of a step each.
 ///
-/// [`BackFault::NoBoard`] with the fault of [`Board::new`], and [`BackFault::NoSuchCore`], where the history names no core.
+/// [`BackFault::NoBoard`] with the fault of [`Board::new`], and [`BackFault::NoSuchCore`], where the history names no
+/// core.
 pub fn first_steps(alloc: Global, board: &Board, count: u64) -> Result<Board, BackFault>
     ensures limit { result ≡ Err (BackFault.NoBoard BoardFault.BadLimit) ↔ (bad_limit board.now.limit ≡ true) }
     ensures limits { result ≡ Err (BackFault.NoBoard BoardFault.BadLimits) ↔

@@ -252,9 +252,9 @@ impl Board {
         }
     }
 
-    /// Up to so many steps of a core, each of them one more pair of the history, and how many they were: fewer only where
-    /// the core has stopped or the history is full. So none of them is idle, and none is aborted from outside of the
-    /// program. Takes no memory.
+    /// Up to so many steps of a core, each of them one more pair of the history, and how many they were: fewer only
+    /// where the core has stopped or the history is full. So none of them is idle, and none is aborted from outside of
+    /// the program. Takes no memory.
     pub fn steps(&mut self, core: u8, most: u32) -> u32
         requires { core < length self.old.program.entries }
         ensures most { result ≤ most }

@@ -303,8 +303,8 @@ fn core_step(
     }
 }
 
-// The step of this outcome of a core, where the rules of a run allow that. False where they do not; memory and the core are
-// then of no use.
+// The step of this outcome of a core, where the rules of a run allow that. False where they do not; memory and the core
+// are then of no use.
 #[inline(never)]
 fn other_step(
     lines: &[Line],

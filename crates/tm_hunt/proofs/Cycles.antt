@@ -1,5 +1,6 @@
 -- A machine that comes back to what it showed does so for ever.
-use Rattle.std.proofs.Common.{◌≡◌, ℕ, zero, suc, ◌+◌, ◌<◌, ◌≤◌, List, [], ◌∷◌, ◌++◌, take, drop, length, refl, sym, ap, ◌∙◌, subst, append_assoc, append-nil, arith, Option, Some, None}
+use Rattle.std.proofs.Common.{◌≡◌, ℕ, zero, suc, ◌+◌, ◌<◌, ◌≤◌, List, [], ◌∷◌, ◌++◌, take, drop, length, refl, sym, ap}
+use Rattle.std.proofs.Common.{◌∙◌, subst, append_assoc, append-nil, arith, Option, Some, None}
 use Rattle.std.proofs.lemmas.List.{map-append, take-append-drop}
 use Rattle.tm_core.specs.Theorem.{IsRun, SameMachine, ShownMachine as Machine, StandsFor, machine_setting, view_at}
 use Rattle.tm_hist.specs.Board.{ShownBoard as Board}
@@ -31,7 +32,8 @@ alike_back shown a b one other = record {
 }
 
 -- they stand for the same states
-stands_alike : (a b : Machine) (state : State) (doomed : Doomed) → machine_setting b ≡ machine_setting a → AreAlike a b →
+stands_alike : (a b : Machine) (state : State) (doomed : Doomed) → machine_setting b ≡ machine_setting a
+    → AreAlike a b →
     StandsFor b state doomed → StandsFor a state doomed
 stands_alike a b state doomed rules alike stands = record {
   same_memory = alike.memory ∙ stands.same_memory;
@@ -108,13 +110,15 @@ leads trial start machine history picks of_trial told is_run =
           end = takes.last;
           is_run = subst (λ (s : Setting). run s opening history ≡ Some takes.last) rules takes.is_run;
           are_owed = subst (λ (s : Setting). AreOwed s opening (λ _. None) history) rules takes.are_owed;
-          stands = subst (λ (s : Setting). StandsFor machine takes.last (doomed_at_end s opening (λ _. None) history)) rules takes.stands;
+          stands = subst (λ (s : Setting). StandsFor machine takes.last (doomed_at_end s opening (λ _. None) history))
+              rules takes.stands;
         };
       },
       refl,
     )
 
-pub round_and_round : (trial : Trial) (a b : Machine) (before picks : List Pick) → CameBy trial a before → SameMachine a b → AreAlike a b →
+pub round_and_round : (trial : Trial) (a b : Machine) (before picks : List Pick) → CameBy trial a before
+    → SameMachine a b → AreAlike a b →
     Makes a b picks → (times : ℕ) → LeadsTo trial (before ++ again times picks) a
 round_and_round trial a b before picks came same alike made times =
     let history : List (ℕ × Outcome) = came.history ++ histories times made.history in
@@ -123,12 +127,15 @@ round_and_round trial a b before picks came same alike made times =
     ∙ (ap (λ (l : List Pick). l ++ picks_of (histories times made.history)) came.told
     ∙ ap (λ (l : List Pick). before ++ l) (picks_again times made.history picks made.told)) in
     leads trial came.start a history (before ++ again times picks) came.of_trial told
-    (runs_again times came.start a b (opening_state trial.program.now) (λ _. None) before picks came.history same alike made came.is_run)
+    (runs_again times came.start a b (opening_state trial.program.now) (λ _. None) before picks came.history same alike
+    made came.is_run)
 
 -- steps that lead to what a machine shows, and a loop that leads back to it
 pub goes_round : (trial : Trial) (picks before steps : List Pick) (cycle : Cycle) (shown a b : Machine) →
-    cycle.start + cycle.steps ≤ length picks → 0 < cycle.steps → before ≡ before_loop picks cycle → steps ≡ loop_of picks cycle →
-    CameBy trial a before → AreAlike shown a → AreRounds a steps → Makes a b steps → SameMachine a b → AreAlike shown b →
+    cycle.start + cycle.steps ≤ length picks → 0 < cycle.steps → before ≡ before_loop picks cycle
+    → steps ≡ loop_of picks cycle →
+    CameBy trial a before → AreAlike shown a → AreRounds a steps → Makes a b steps → SameMachine a b
+    → AreAlike shown b →
     GoesRound trial picks cycle
 goes_round trial picks before steps cycle shown a b within some first loop came there rounds made same back = record {
   within = within;
@@ -151,7 +158,8 @@ makes_none machine = record {
       subst (IsRun start machine state doomed) (sym (append-nil earlier)) is_run;
 }
 
-pub makes_more : (first middle last : Machine) (picks more all : List Pick) → all ≡ picks ++ more → Makes first middle picks →
+pub makes_more : (first middle last : Machine) (picks more all : List Pick) → all ≡ picks ++ more
+    → Makes first middle picks →
     Makes middle last more → Makes first last all
 makes_more first middle last picks more all is one other = record {
   history = one.history ++ other.history;
@@ -166,7 +174,8 @@ makes_more first middle last picks more all is one other = record {
 
 -- one step, by what it comes to
 pub makes_one : (before after : Machine) (pick : Pick) (outcome : Outcome) → pick_of (pick.core, outcome) ≡ pick →
-    ((start : Machine) (state : State) (doomed : Doomed) (earlier : List (ℕ × Outcome)) → IsRun start before state doomed earlier →
+    ((start : Machine) (state : State) (doomed : Doomed) (earlier : List (ℕ × Outcome))
+    → IsRun start before state doomed earlier →
     IsRun start after state doomed (earlier ++ (pick.core, outcome) ∷ [])) →
     Makes before after (pick ∷ [])
 makes_one before after pick outcome told runs = record {
@@ -175,12 +184,14 @@ makes_one before after pick outcome told runs = record {
   runs = runs;
 }
 
-pub pick_told : (pick : Pick) (outcome : Outcome) → event_told outcome ≡ pick.event → pick_of (pick.core, outcome) ≡ pick
+pub pick_told : (pick : Pick) (outcome : Outcome) → event_told outcome ≡ pick.event
+    → pick_of (pick.core, outcome) ≡ pick
 pick_told pick outcome told = ap (λ (event : Option Event). record { core = pick.core; event = event }) told
 
 -- all steps of a machine that was opened
 pub came_by : (trial : Trial) (start machine : Machine) (picks : List Pick) → IsMachineOf trial start →
-    StandsFor start (opening_state trial.program.now) (λ _. None) → Makes start machine picks → CameBy trial machine picks
+    StandsFor start (opening_state trial.program.now) (λ _. None) → Makes start machine picks
+    → CameBy trial machine picks
 came_by trial start machine picks of_trial stands made = record {
   start = start;
   of_trial = of_trial;
@@ -199,19 +210,22 @@ again_behind zero round = sym (append-nil round)
 again_behind (suc times) round =
     append_assoc round (again times round) round ∙ ap (λ (l : List Pick). round ++ l) (again_behind times round)
 
-pub cut_again : (left front rest : List Pick) (count : ℕ) → front ≡ take count left → rest ≡ drop count left → front ++ rest ≡ left
+pub cut_again : (left front rest : List Pick) (count : ℕ) → front ≡ take count left → rest ≡ drop count left
+    → front ++ rest ≡ left
 cut_again left front rest count first last =
     ap (λ (l : List Pick). l ++ rest) first
     ∙ (ap (λ (l : List Pick). take count left ++ l) last ∙ take-append-drop count left)
 
 -- one round more
-pub again_more : (times : ℕ) (picks round left front rest : List Pick) → picks ≡ again times round ++ left → front ++ rest ≡ left →
+pub again_more : (times : ℕ) (picks round left front rest : List Pick) → picks ≡ again times round ++ left
+    → front ++ rest ≡ left →
     front ≡ round → (more : ℕ) × (picks ≡ again more round ++ rest)
 again_more times picks round left front rest e split same = (
   suc times,
   e
       ∙ (ap (λ (l : List Pick). again times round ++ l) (sym split ∙ ap (λ (l : List Pick). l ++ rest) same)
-      ∙ (sym (append_assoc (again times round) round rest) ∙ ap (λ (l : List Pick). l ++ rest) (again_behind times round))),
+      ∙ (sym (append_assoc (again times round) round rest)
+      ∙ ap (λ (l : List Pick). l ++ rest) (again_behind times round))),
 )
 
 -- ---- machines of a trial

@@ -36,11 +36,13 @@ was_full : (board : Board) → HasEnded board ⊎ IsFull board → ¬ (HasEnded 
 was_full board (inl ended) runs = absurd (runs ended)
 was_full board (inr full) runs = full
 
-pub was_cut : (trial : Trial) (board : Board) → IsOver trial board → NoneViolated board trial.checks.now → ¬ (HasEnded board) → IsFull board
+pub was_cut : (trial : Trial) (board : Board) → IsOver trial board → NoneViolated board trial.checks.now
+    → ¬ (HasEnded board) → IsFull board
 was_cut trial board over none runs = was_full board (has_come trial board over none) runs
 
 -- a run of the trial's board that comes to this is such an attempt
-pub attempt_of : (trial : Trial) (made : Board → Type 0) (board : Board) → IsTrialOf trial board → IsHistory board → made board → (attempt : Attempt) →
+pub attempt_of : (trial : Trial) (made : Board → Type 0) (board : Board) → IsTrialOf trial board → IsHistory board
+    → made board → (attempt : Attempt) →
     ComesTo trial board attempt → IsAttempt trial made attempt
 attempt_of trial made board of_trial is_run so attempt came = record {
   board = board;
@@ -50,11 +52,16 @@ attempt_of trial made board of_trial is_run so attempt came = record {
 }
 
 -- steps of what begins the run of a number are that run's
-pub run_of_number : {Steps : Type 0} (begins : Plan → ℕ → ℕ → Steps → Type 0) (picks : Steps → Machine → ℕ → List ℕ → Pick → Steps → Type 0) (kinds_of : Steps → Kinds)
-    (plan : Plan) (number cores : ℕ) (first : Steps) (trial : Trial) → begins plan number cores first → AreDrawn plan.events (kinds_of first) →
-    cores ≡ length trial.program.now.entries → (attempt : Attempt) → IsAttempt trial (AreStepsOf picks kinds_of first) attempt → IsAttempt trial (IsOfRun begins picks plan number) attempt
+pub run_of_number : {Steps : Type 0} (begins : Plan → ℕ → ℕ → Steps → Type 0)
+    (picks : Steps → Machine → ℕ → List ℕ → Pick → Steps → Type 0) (kinds_of : Steps → Kinds)
+    (plan : Plan) (number cores : ℕ) (first : Steps) (trial : Trial) → begins plan number cores first
+    → AreDrawn plan.events (kinds_of first) →
+    cores ≡ length trial.program.now.entries
+    → (attempt : Attempt) → IsAttempt trial (AreStepsOf picks kinds_of first) attempt
+    → IsAttempt trial (IsOfRun begins picks plan number) attempt
 run_of_number begins picks kinds_of plan number cores first trial begun drawn count attempt h =
-    let same : cores ≡ length h.board.program.entries = count ∙ ap (λ (program : Program). length program.entries) (sym h.run.of_trial.program) in
+    let same : cores ≡ length h.board.program.entries =
+    count ∙ ap (λ (program : Program). length program.entries) (sym h.run.of_trial.program) in
     record {
       board = h.board;
       run = h.run;
@@ -69,7 +76,8 @@ run_of_number begins picks kinds_of plan number cores first trial begun drawn co
     }
 
 -- an attempt that failed is a failure
-pub failure_of : (trial : Trial) (made : Board → Type 0) (failure : Failure) → IsAttempt trial made (Failed failure) → IsFailure trial failure
+pub failure_of : (trial : Trial) (made : Board → Type 0) (failure : Failure) → IsAttempt trial made (Failed failure)
+    → IsFailure trial failure
 failure_of trial made failure h = record {
   fails = record {
     board = h.board;
@@ -80,6 +88,7 @@ failure_of trial made failure h = record {
 }
 
 -- and its events are of the kinds of what picked its steps
-pub failure_kinds : {Steps : Type 0} (picks : Steps → Machine → ℕ → List ℕ → Pick → Steps → Type 0) (kinds_of : Steps → Kinds) (first : Steps) (trial : Trial) (failure : Failure) →
+pub failure_kinds : {Steps : Type 0} (picks : Steps → Machine → ℕ → List ℕ → Pick → Steps → Type 0)
+    (kinds_of : Steps → Kinds) (first : Steps) (trial : Trial) (failure : Failure) →
     IsAttempt trial (AreStepsOf picks kinds_of first) (Failed failure) → AreOfKinds (kinds_of first) failure.picks.items
 failure_kinds picks kinds_of first trial failure h = subst (AreOfKinds (kinds_of first)) (sym h.came_to.1) h.so.kinds

@@ -1,5 +1,6 @@
 -- Why the cores of a state have stopped, and what one more step does to that.
-use Rattle.std.proofs.Common.{◌≡◌, ℕ, suc, Bool, true, false, cond, eqb, ltb, List, [], ◌∷◌, ◌++◌, Option, Some, None, refl, sym, ap, ◌∙◌, subst}
+use Rattle.std.proofs.Common.{◌≡◌, ℕ, suc, Bool, true, false, cond, eqb, ltb, List, [], ◌∷◌, ◌++◌, Option, Some, None}
+use Rattle.std.proofs.Common.{refl, sym, ap, ◌∙◌, subst}
 use Rattle.std.specs.Option.{option_map}
 use Rattle.std.proofs.lemmas.Option.{option_and_then_some, same_Some}
 use Rattle.tm_model.specs.Access.{memory_after}
@@ -7,11 +8,13 @@ use Rattle.tm_model.specs.Isolated.{Body, isolated_body}
 use Rattle.tm_model.specs.Setting.{Setting, outside_at, value_at}
 use Rattle.tm_model.specs.Shown.{View, view_between, view_inside, view_midway, view_of, view_of_body, view_outside}
 use Rattle.tm_model.specs.State.{Closed, Core, Halted, Midway, Opened, State}
-use Rattle.tm_model.specs.Steps.{after_begin, after_commit, after_load, after_plain, after_step_of, after_stop, run, state_with, step, stop_number}
+use Rattle.tm_model.specs.Steps.{after_begin, after_commit, after_load, after_plain, after_step_of, after_stop, run}
+use Rattle.tm_model.specs.Steps.{state_with, step, stop_number}
 use Rattle.tm_model.specs.Types.{Begins, Goes, OutsideResult, Regs, Stop, Stops}
 use Rattle.tm_model.specs.declared.outcome.CoreState.TheVariants.{Running, Condemned, Stopped as AtStop}
 use Rattle.tm_model.specs.declared.outcome.Outcome.{Outcome}
-use Rattle.tm_model.specs.declared.outcome.Outcome.TheVariants.{Plain, Loaded, Stopped, Idle, Begun, Inside, Committed, Aborted, AbortedBy}
+use Rattle.tm_model.specs.declared.outcome.Outcome.TheVariants.{Plain, Loaded, Stopped, Idle, Begun, Inside, Committed}
+use Rattle.tm_model.specs.declared.outcome.Outcome.TheVariants.{Aborted, AbortedBy}
 use Rattle.tm_hist.specs.Board.{stop_shown}
 
 -- why a core of a state stopped, where it did
@@ -36,8 +39,10 @@ halt_told (AbortedBy by status) = None
 -- ---- what is shown
 
 module _ (k : Setting) (m : List ℕ) where
-  shows_midway : (s : Regs) (value : ℕ) (o : OutsideResult) (v : View) → view_midway s value o ≡ Some v → stop_shown v.mode ≡ None
-  shows_midway s value (Goes t w) v e = ap (λ (u : View). stop_shown u.mode) (sym (same_Some (view_between s value) v e))
+  shows_midway : (s : Regs) (value : ℕ) (o : OutsideResult) (v : View) → view_midway s value o ≡ Some v
+      → stop_shown v.mode ≡ None
+  shows_midway s value (Goes t w) v e =
+      ap (λ (u : View). stop_shown u.mode) (sym (same_Some (view_between s value) v e))
   shows_midway s value (Begins t) v e = cc
   shows_midway s value (Stops x) v e = cc
 
@@ -54,10 +59,13 @@ module _ (k : Setting) (m : List ℕ) where
   shows_halt (Closed s) (Some depth) v e = cc
   shows_halt (Midway s value) None v e = shows_midway s value (k.outside s value) v e
   shows_halt (Midway s value) (Some depth) v e = cc
-  shows_halt (Halted s why) None v e = ap (λ (u : View). stop_shown u.mode) (sym (same_Some (view_outside (AtStop why) s) v e))
+  shows_halt (Halted s why) None v e =
+      ap (λ (u : View). stop_shown u.mode) (sym (same_Some (view_outside (AtStop why) s) v e))
   shows_halt (Halted s why) (Some depth) v e = cc
-  shows_halt (Opened s n) (Some depth) v e = ap (λ (u : View). stop_shown u.mode) (sym (same_Some (view_outside (Condemned depth) s) v e))
-  shows_halt (Opened s n) None v e = option_and_then_some (view_inside s) (isolated_body k s m n) v e (λ b is e2. shows_open s b v e2)
+  shows_halt (Opened s n) (Some depth) v e =
+      ap (λ (u : View). stop_shown u.mode) (sym (same_Some (view_outside (Condemned depth) s) v e))
+  shows_halt (Opened s n) None v e =
+      option_and_then_some (view_inside s) (isolated_body k s m n) v e (λ b is e2. shows_open s b v e2)
 
 -- ---- one step
 
@@ -72,7 +80,8 @@ plain_halt m (Goes t w) p e = halt_is _ p e
 plain_halt m (Begins t) p e = cc
 plain_halt m (Stops x) p e = cc
 
-load_halt : (m : List ℕ) (s : Regs) (value : ℕ) (r : OutsideResult) (p : Change) → after_load m s value r ≡ Some p → halt_of p.1 ≡ None
+load_halt : (m : List ℕ) (s : Regs) (value : ℕ) (r : OutsideResult) (p : Change) → after_load m s value r ≡ Some p
+    → halt_of p.1 ≡ None
 load_halt m s value (Goes t w) p e = halt_is _ p e
 load_halt m s value (Begins t) p e = cc
 load_halt m s value (Stops x) p e = cc
@@ -82,31 +91,36 @@ begin_halt m s (Goes t w) p e = cc
 begin_halt m s (Begins t) p e = halt_is _ p e
 begin_halt m s (Stops x) p e = cc
 
-stop_halt : (m : List ℕ) (s : Regs) (why : Stop) (r : OutsideResult) (p : Change) → after_stop m s why r ≡ Some p → halt_of p.1 ≡ Some why
+stop_halt : (m : List ℕ) (s : Regs) (why : Stop) (r : OutsideResult) (p : Change) → after_stop m s why r ≡ Some p
+    → halt_of p.1 ≡ Some why
 stop_halt m s why (Goes t w) p e = cc
 stop_halt m s why (Begins t) p e = cc
 stop_halt m s why (Stops x) p e =
-    (elim (eqb (stop_number why) (stop_number x)) as (λ t. cond t (Some (m, Halted s why)) None ≡ Some p → halt_of p.1 ≡ Some why) [
+    (elim (eqb (stop_number why) (stop_number x))
+    as (λ t. cond t (Some (m, Halted s why)) None ≡ Some p → halt_of p.1 ≡ Some why) [
       | true ↦ λ e. halt_is (m, Halted s why) p e
       | false ↦ λ e. cc
     ]) e
 
 commit_halt : (m : List ℕ) (b : Body) (p : Change) → after_commit m b ≡ Some p → halt_of p.1 ≡ None
 commit_halt m b p e =
-    (elim (eqb b.depth 0) as (λ t. cond t (Some (memory_after m b.stores, Closed b.regs)) None ≡ Some p → halt_of p.1 ≡ None) [
+    (elim (eqb b.depth 0)
+    as (λ t. cond t (Some (memory_after m b.stores, Closed b.regs)) None ≡ Some p → halt_of p.1 ≡ None) [
       | true ↦ λ e. halt_is _ p e
       | false ↦ λ e. cc
     ]) e
 
 -- the core that steps, where it has not stopped, has stopped exactly where its outcome says so
-own_halt : (k : Setting) (m : List ℕ) (x : Core) (o : Outcome) (p : Change) → after_step_of k m x o ≡ Some p → halt_of x ≡ None → halt_of p.1 ≡ halt_told o
+own_halt : (k : Setting) (m : List ℕ) (x : Core) (o : Outcome) (p : Change) → after_step_of k m x o ≡ Some p
+    → halt_of x ≡ None → halt_of p.1 ≡ halt_told o
 own_halt k m (Closed s) Plain p e none =
     (elim (k.takes_two_steps s) as (λ t. cond t None (after_plain m (outside_at k s m)) ≡ Some p → halt_of p.1 ≡ None) [
       | true ↦ λ e. cc
       | false ↦ λ e. plain_halt m (outside_at k s m) p e
     ]) e
 own_halt k m (Closed s) Loaded p e none =
-    (elim (k.takes_two_steps s) as (λ t. cond t (after_load m s (value_at k s m) (outside_at k s m)) None ≡ Some p → halt_of p.1 ≡ None) [
+    (elim (k.takes_two_steps s)
+    as (λ t. cond t (after_load m s (value_at k s m) (outside_at k s m)) None ≡ Some p → halt_of p.1 ≡ None) [
       | true ↦ λ e. load_halt m s (value_at k s m) (outside_at k s m) p e
       | false ↦ λ e. cc
     ]) e
@@ -133,7 +147,8 @@ own_halt k m (Opened s n) (Stopped why) p e none = cc
 own_halt k m (Opened s n) Idle p e none = cc
 own_halt k m (Opened s n) Begun p e none = cc
 own_halt k m (Opened s n) Inside p e none = halt_is _ p e
-own_halt k m (Opened s n) Committed p e none = option_and_then_some (after_commit m) (isolated_body k s m (suc n)) p e (λ b is e2. commit_halt m b p e2)
+own_halt k m (Opened s n) Committed p e none =
+    option_and_then_some (after_commit m) (isolated_body k s m (suc n)) p e (λ b is e2. commit_halt m b p e2)
 own_halt k m (Opened s n) (Aborted status) p e none = halt_is _ p e
 own_halt k m (Opened s n) (AbortedBy by status) p e none = halt_is _ p e
 
@@ -143,7 +158,8 @@ pub record Moved (k : Setting) (a : State) (c : ℕ) (o : Outcome) (next : State
   pub moves : after_step_of k a.memory (a.cores c) o ≡ Some to
   pub is : state_with a c to ≡ next
 
-by_move : (k : Setting) (a : State) (c : ℕ) (o : Outcome) (next : State) (b : Bool) (x : Option Change) → after_step_of k a.memory (a.cores c) o ≡ x →
+by_move : (k : Setting) (a : State) (c : ℕ) (o : Outcome) (next : State) (b : Bool) (x : Option Change)
+    → after_step_of k a.memory (a.cores c) o ≡ x →
     cond b (option_map (state_with a c) x) None ≡ Some next → Moved k a c o next
 by_move k a c o next false x moves e = cc
 by_move k a c o next true None moves e = cc
@@ -152,16 +168,19 @@ by_move k a c o next true (Some p) moves e = record { to = p; moves = moves; is 
 move_of : (k : Setting) (a : State) (c : ℕ) (o : Outcome) (next : State) → step k a c o ≡ Some next → Moved k a c o next
 move_of k a c o next e = by_move k a c o next (ltb c a.count) (after_step_of k a.memory (a.cores c) o) refl e
 
-cores_with : (a : State) (c j : ℕ) (p : Change) (b : Bool) → eqb j c ≡ b → (state_with a c p).cores j ≡ cond b p.1 (a.cores j)
+cores_with : (a : State) (c j : ℕ) (p : Change) (b : Bool) → eqb j c ≡ b
+    → (state_with a c p).cores j ≡ cond b p.1 (a.cores j)
 cores_with a c j p b e = ap (λ (t : Bool). cond t p.1 (a.cores j)) e
 
-pub other_same : (k : Setting) (a : State) (c : ℕ) (o : Outcome) (next : State) (j : ℕ) → step k a c o ≡ Some next → eqb j c ≡ false →
+pub other_same : (k : Setting) (a : State) (c : ℕ) (o : Outcome) (next : State) (j : ℕ) → step k a c o ≡ Some next
+    → eqb j c ≡ false →
     halt_of (next.cores j) ≡ halt_of (a.cores j)
 other_same k a c o next j e other =
     let move = move_of k a c o next e in
     ap (λ (x : State). halt_of (x.cores j)) (sym move.is) ∙ ap halt_of (cores_with a c j move.to false other)
 
-pub own_after : (k : Setting) (a : State) (c : ℕ) (o : Outcome) (next : State) → step k a c o ≡ Some next → eqb c c ≡ true → halt_of (a.cores c) ≡ None →
+pub own_after : (k : Setting) (a : State) (c : ℕ) (o : Outcome) (next : State) → step k a c o ≡ Some next
+    → eqb c c ≡ true → halt_of (a.cores c) ≡ None →
     halt_of (next.cores c) ≡ halt_told o
 own_after k a c o next e self none =
     let move = move_of k a c o next e in
@@ -170,7 +189,8 @@ own_after k a c o next e self none =
 
 -- ---- a history and one more step
 
-pub run_last : (k : Setting) (a : State) (h : List (ℕ × Outcome)) (x : ℕ × Outcome) (y z : State) → run k a (h ++ x ∷ []) ≡ Some z → run k a h ≡ Some y →
+pub run_last : (k : Setting) (a : State) (h : List (ℕ × Outcome)) (x : ℕ × Outcome) (y z : State)
+    → run k a (h ++ x ∷ []) ≡ Some z → run k a h ≡ Some y →
     step k y x.0 x.1 ≡ Some z
 run_last k a [] x y z e there =
     let same : a ≡ y = same_Some a y there in

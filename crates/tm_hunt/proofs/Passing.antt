@@ -6,7 +6,8 @@ use Rattle.tm_model.specs.declared.outcome.Outcome.{Outcome}
 use Rattle.tm_model.specs.declared.outcome.Pick.{Pick}
 use Rattle.tm_hunt.specs.Runs.{AreLeft, IsNext, IsStep, last_core}
 
-pub last_more : (core : ℕ) (history : List (ℕ × Outcome)) (made : ℕ × Outcome) → last_core core (history ++ made ∷ []) ≡ made.0
+pub last_more : (core : ℕ) (history : List (ℕ × Outcome)) (made : ℕ × Outcome)
+    → last_core core (history ++ made ∷ []) ≡ made.0
 last_more core [] made = refl
 last_more core (before ∷ history) made = last_more before.0 history made
 
@@ -15,8 +16,10 @@ last_is pick before after step =
     sym (ap (last_core 0) step.made ∙ last_more 0 before.history (pick.core, step.outcome))
 
 -- the next step, of a machine and a core that are those of the board
-pub next_of : {Steps : Type 0} (picks : Steps → Machine → ℕ → List ℕ → Pick → Steps → Type 0) (source next : Steps) (before after : Board) (machine : Machine) (last : ℕ)
-    (going : List ℕ) (pick : Pick) → machine ≡ before.machine → last ≡ last_core 0 before.history → AreLeft before going → picks source machine last going pick next →
+pub next_of : {Steps : Type 0} (picks : Steps → Machine → ℕ → List ℕ → Pick → Steps → Type 0) (source next : Steps)
+    (before after : Board) (machine : Machine) (last : ℕ)
+    (going : List ℕ) (pick : Pick) → machine ≡ before.machine → last ≡ last_core 0 before.history → AreLeft before going
+    → picks source machine last going pick next →
     IsStep pick before after → IsNext picks source next before after
 next_of picks source next before after machine last going pick same_machine same_last left picked step = record {
   going = going;

@@ -24,9 +24,9 @@ pub struct Chase<'a> {
 }
 
 impl Chase<'_> {
-    /// A loop that the walk behind so many steps may come to, in rounds of so many: its first step from which some rounds lead
-    /// to what is shown alike, and the fewest such rounds. The slow one stands at its start then. Nothing where the walk ends
-    /// before they meet.
+    /// A loop that the walk behind so many steps may come to, in rounds of so many: its first step from which some
+    /// rounds lead to what is shown alike, and the fewest such rounds. The slow one stands at its start then. Nothing
+    /// where the walk ends before they meet.
     #[tactic(auto, using(crate::proofs::Cycles::chase_of))]
     pub fn cycle(&mut self, trial: &Trial<'_>, front: usize, round: usize) -> Option<Cycle>
         requires { IsChaseOf trial.now self.old }
@@ -50,8 +50,8 @@ impl Chase<'_> {
         self.fast.go_from_start(trial, fast);
     }
 
-    // Whether they are shown alike. Memory is looked at first where it differed the last time, since that of a loop that
-    // counts differs there time and again.
+    // Whether they are shown alike. Memory is looked at first where it differed the last time, since that of a loop
+    // that counts differs there time and again.
     fn are_alike(&mut self) -> bool
         ensures { SameChase self.old self.new }
     {

@@ -41,10 +41,10 @@ impl Cycle {
     }
 }
 
-/// Looks for the loop of a failing run that reached the limit on steps, behind the steps that decide: there the cores go on
-/// in turn, and where that comes back, after whole rounds, to what is shown alike, it does so for ever. It is sought up to
-/// the limit, on two machines of which one goes twice as fast, and what is found is made once more before it is told. Of a
-/// run of which none is told nothing is said.
+/// Looks for the loop of a failing run that reached the limit on steps, behind the steps that decide: there the cores
+/// go on in turn, and where that comes back, after whole rounds, to what is shown alike, it does so for ever. It is
+/// sought up to the limit, on two machines of which one goes twice as fast, and what is found is made once more before
+/// it is told. Of a run of which none is told nothing is said.
 pub fn find_cycle(
     alloc: Global,
     trial: &Trial<'_>,
@@ -93,8 +93,8 @@ fn told(
 }
 
 impl Cycle {
-    // Makes it on a machine of the trial: whether the steps before it lead to what another machine shows, and its own steps,
-    // rounds of so many, back to that.
+    // Makes it on a machine of the trial: whether the steps before it lead to what another machine shows, and its own
+    // steps, rounds of so many, back to that.
     fn is_made(
         self,
         trial: &Trial<'_>,

@@ -14,8 +14,8 @@ pub struct Failure {
     pub picks: Vec<Pick>,
     /// The index of the first check that it violates.
     pub check: usize,
-    /// How many of its first steps decide. They are all of them, but where a run was shortened that reached the limit on
-    /// steps: behind them each core steps in turn then, up to the limit.
+    /// How many of its first steps decide. They are all of them, but where a run was shortened that reached the limit
+    /// on steps: behind them each core steps in turn then, up to the limit.
     pub front: usize,
     pub ghost within: { front ≤ length picks.items },
 }

@@ -13,8 +13,8 @@ use crate::cost::events;
 use tm_core::Machine;
 use tm_model::{CoreState, Pick};
 
-/// How many steps a round has at the end of a list in which each core that has not stopped steps in turn: as many as it is
-/// from the last step of a core to the one before it. None where the core of the last step has no other.
+/// How many steps a round has at the end of a list in which each core that has not stopped steps in turn: as many as it
+/// is from the last step of a core to the one before it. None where the core of the last step has no other.
 pub fn round_at_end(picks: &[Pick]) -> Option<usize> {
     let (last, before) = picks.split_last()?;
     let mut left = before;
@@ -29,8 +29,8 @@ pub fn round_at_end(picks: &[Pick]) -> Option<usize> {
     None
 }
 
-/// Whether the steps of a list are rounds of so many steps, in the same turn each: of the cores of a machine that have not
-/// stopped, under no events.
+/// Whether the steps of a list are rounds of so many steps, in the same turn each: of the cores of a machine that have
+/// not stopped, under no events.
 pub fn are_rounds(machine: &Machine, picks: &[Pick], count: usize) -> bool
     ensures { IsTrue result → AreRounds machine.now picks.now }
 {

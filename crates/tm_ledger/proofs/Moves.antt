@@ -1,5 +1,7 @@
 -- Each step keeps the progress.
-use Rattle.std.proofs.Common.{◌≡◌, ◌≢◌, ◌⊎◌, ℕ, zero, suc, ◌<◌, List, [], ◌∷◌, ◌++◌, length, set, Some, None, Option, true, false, cond, eqb, true≢false, refl, sym, ap, ◌∙◌, subst, ⊎_elim, inl, inr, arith, eq-eqb, ne_eqb}
+use Rattle.std.proofs.Common.{◌≡◌, ◌≢◌, ◌⊎◌, ℕ, zero, suc, ◌<◌, List, [], ◌∷◌, ◌++◌, length, set, Some, None, Option}
+use Rattle.std.proofs.Common.{true, false, cond, eqb, true≢false, refl, sym, ap, ◌∙◌, subst, ⊎_elim, inl, inr, arith}
+use Rattle.std.proofs.Common.{eq-eqb, ne_eqb}
 use Rattle.std.specs.Prelude.{slice_get, slice_set, IfSome}
 use mathlib.Core.Option.{some, some-ne-none, some-injective}
 use lib.ListN.{get_elem?}
@@ -7,13 +9,15 @@ use Rattle.atomic_table.specs.Table.{Me, step, keeps, Allows, Splits, Joins}
 use Rattle.atomic_table.proofs.Lists.{at_set}
 use Rattle.std.proofs.lemmas.Option.{slice_get_within}
 use Rattle.tm_ledger.specs.declared.rule.SeatView.{SeatView}
-use Rattle.tm_ledger.specs.Rules.{keeper_of, keeper_with, token_of, spent_view, KnowsProgress, ViewsAgree, OpensLine, WritesLine}
+use Rattle.tm_ledger.specs.Rules.{keeper_of, keeper_with, token_of, spent_view, KnowsProgress, ViewsAgree, OpensLine}
+use Rattle.tm_ledger.specs.Rules.{WritesLine}
 
 off : false ≡ true → ⊥
 off e = true≢false (sym e)
 
 -- the new element stands behind the others
-at_snoc : {A : Type 0} (l : List A) (a b : A) (j : ℕ) → get_elem? (l ++ a ∷ []) j ≡ some b → (get_elem? l j ≡ some b) ⊎ ((j ≡ length l) × (a ≡ b))
+at_snoc : {A : Type 0} (l : List A) (a b : A) (j : ℕ) → get_elem? (l ++ a ∷ []) j ≡ some b
+    → (get_elem? l j ≡ some b) ⊎ ((j ≡ length l) × (a ≡ b))
 at_snoc [] a b zero e = inr (refl, some-injective a b e)
 at_snoc [] a b (suc j) e = absurd (some-ne-none b (sym e))
 at_snoc (x ∷ xs) a b zero e = inl e
@@ -55,23 +59,28 @@ module _ {M : Type 0} where
   slice_get_other (y ∷ xs) (suc k) (suc j) x n = slice_get_other xs k j x (λ e. n (ap suc e))
 
   fits_set : (seat : ℕ) (all : List M) (who : ℕ → ℕ) (views : List (SeatView M)) (by : ℕ) (w : SeatView M)
-      → ((j : ℕ) (u : SeatView M) → j ≢ by → get_elem? views j ≡ some u → KnowsProgress seat all who j u) → KnowsProgress seat all who by w
+      → ((j : ℕ) (u : SeatView M) → j ≢ by → get_elem? views j ≡ some u → KnowsProgress seat all who j u)
+      → KnowsProgress seat all who by w
       → (j : ℕ) (u : SeatView M) → get_elem? (set views by w) j ≡ some u → KnowsProgress seat all who j u
   fits_set seat all who views by w others mine j u e =
       ⊎_elim
-      (λ (x : (j ≡ by) × (w ≡ u)). subst (λ (y : ℕ × SeatView M). KnowsProgress seat all who y.0 y.1) (λ i. (sym x.0 i, x.1 i)) mine)
+      (λ (x : (j ≡ by) × (w ≡ u)). subst (λ (y : ℕ × SeatView M). KnowsProgress seat all who y.0 y.1)
+      (λ i. (sym x.0 i, x.1 i)) mine)
       (λ (x : (j ≢ by) × (get_elem? views j ≡ some u)). others j u x.0 x.1)
       (at_set views by j w u e)
 
   pub begins : ViewsAgree (keeper_of {M = M} [] ∷ [])
   begins = (0, [], (λ _. 0), one)
     where
-      one : (by : ℕ) (v : SeatView M) → get_elem? (keeper_of {M = M} [] ∷ []) by ≡ some v → KnowsProgress 0 [] (λ _. 0) by v
-      one zero v e = subst (KnowsProgress 0 [] (λ _. 0) 0) (some-injective _ _ e) ((λ _. (refl, refl)), (λ m is. absurd (no_mark m is)))
+      one : (by : ℕ) (v : SeatView M) → get_elem? (keeper_of {M = M} [] ∷ []) by ≡ some v
+          → KnowsProgress 0 [] (λ _. 0) by v
+      one zero v e = subst (KnowsProgress 0 [] (λ _. 0) 0) (some-injective _ _ e)
+          ((λ _. (refl, refl)), (λ m is. absurd (no_mark m is)))
       one (suc by) v e = absurd (some-ne-none v (sym e))
 
   pub opens : (id slots : ℕ) (all : List M) (m : M) (f : ℕ → ℕ)
-      → Allows {S = M} {V = SeatView M} (λ s. ViewsAgree s.views) slots id (keeper_of all, []) 0 f (OpensLine (step slots 0 0 0 (some m)) (keeper_of all, []))
+      → Allows {S = M} {V = SeatView M} (λ s. ViewsAgree s.views) slots id (keeper_of all, []) 0 f
+      (OpensLine (step slots 0 0 0 (some m)) (keeper_of all, []))
   opens id slots all m f s h homes at word =
       let mine = (h.3 id (keeper_of all) at).0 refl in
       let line : ℕ = length all in
@@ -92,8 +101,10 @@ module _ {M : Type 0} where
                 (λ x is.
                     let t = old.1 x is in
                     let there : slice_get all u.line ≡ Some x = ap (λ l. slice_get l u.line) mine.1 ∙ t.1 in
-                    let below = slice_get_within all u.line x there in
-                    (moved_else h.2 line id u.line (λ same. absurd (omega arith)) ∙ t.0, slice_get_front all (m ∷ []) u.line x there)),
+                    let below = slice_get_within all u.line x there in (
+                      moved_else h.2 line id u.line (λ same. absurd (omega arith)) ∙ t.0,
+                      slice_get_front all (m ∷ []) u.line x there,
+                    )),
               ))
               ((λ _. (mine.0, refl)), (λ x is. (moved_here h.2 line id, slice_get_last all m ∙ is))),
         ),
@@ -101,7 +112,8 @@ module _ {M : Type 0} where
       )
 
   pub notes : (id slots : ℕ) (all : List M) (line : ℕ) (n m : M) (f : ℕ → ℕ)
-      → Allows {S = M} {V = SeatView M} (λ s. ViewsAgree s.views) slots id (keeper_with all line (Some n), []) 0 f (WritesLine (step slots 0 0 0 (some m)) (keeper_with all line (Some n), []))
+      → Allows {S = M} {V = SeatView M} (λ s. ViewsAgree s.views) slots id (keeper_with all line (Some n), []) 0 f
+      (WritesLine (step slots 0 0 0 (some m)) (keeper_with all line (Some n), []))
   notes id slots all line n m f s h homes at word =
       let both = h.3 id (keeper_with all line (Some n)) at in
       let mine = both.0 refl in
@@ -128,11 +140,15 @@ module _ {M : Type 0} where
               ))
               ((λ _. (mine.0, refl)), (λ x is. (held.0, slice_get_same all line m below ∙ is))),
         ),
-        ((λ k is. here ∙ is), (λ k said. ap (λ (y : M). (keeper_with (slice_set all line y) line (Some y), [])) (some-injective m k said))),
+        (
+          (λ k is. here ∙ is),
+          (λ k said. ap (λ (y : M). (keeper_with (slice_set all line y) line (Some y), [])) (some-injective m k said)),
+        ),
       )
 
   pub gives : (id : ℕ) (all : List M) (line : ℕ) (n : M)
-      → Splits {S = M} {V = SeatView M} (λ s. ViewsAgree s.views) id (keeper_with all line (Some n)) (keeper_of all) (token_of line (Some n))
+      → Splits {S = M} {V = SeatView M} (λ s. ViewsAgree s.views) id (keeper_with all line (Some n)) (keeper_of all)
+      (token_of line (Some n))
   gives id all line n s h at =
       let both = h.3 id (keeper_with all line (Some n)) at in
       let mine = both.0 refl in
@@ -156,18 +172,22 @@ module _ {M : Type 0} where
         who,
         λ j u e. ⊎_elim
             (λ was. first j u was)
-            (λ (t : (j ≡ next) × (token_of line (Some n) ≡ u)). subst (λ (y : ℕ × SeatView M). KnowsProgress h.0 all who y.0 y.1) (λ i. (sym t.0 i, t.1 i))
+            (λ (t : (j ≡ next) × (token_of line (Some n) ≡ u)).
+            subst (λ (y : ℕ × SeatView M). KnowsProgress h.0 all who y.0 y.1) (λ i. (sym t.0 i, t.1 i))
             ((λ k. absurd (off k)), (λ x is. (moved_here h.2 line next, here ∙ is))))
             (at_snoc views (token_of line (Some n)) u j e),
       )
 
   pub takes : (id : ℕ) (all : List M) (other : ℕ) (line : ℕ) (n : M)
-      → Joins {S = M} {V = SeatView M} (λ s. ViewsAgree s.views) id (keeper_of all) other (token_of line (Some n)) (keeper_with all line (Some n)) spent_view
+      → Joins {S = M} {V = SeatView M} (λ s. ViewsAgree s.views) id (keeper_of all) other (token_of line (Some n))
+      (keeper_with all line (Some n)) spent_view
   takes id all other line n s h at apart there =
       let both = keeper_with all line (Some n) in
       let token = token_of line (Some n) in
       let mine = (h.3 id (keeper_of all) at).0 refl in
-      let theirs = ⊎_elim (λ (t : (other ≡ id) × (both ≡ token)). absurd (apart t.0)) (λ (t : (other ≢ id) × (get_elem? s.views other ≡ some token)). h.3 other token t.1) (at_set s.views id other both token there) in
+      let theirs = ⊎_elim (λ (t : (other ≡ id) × (both ≡ token)). absurd (apart t.0))
+      (λ (t : (other ≢ id) × (get_elem? s.views other ≡ some token)). h.3 other token t.1)
+      (at_set s.views id other both token there) in
       let held = theirs.1 n refl in
       let here : slice_get all line ≡ Some n = ap (λ l. slice_get l line) mine.1 ∙ held.1 in
       let who : ℕ → ℕ = moved h.2 line id in (
@@ -176,14 +196,17 @@ module _ {M : Type 0} where
         who,
         fits_set h.0 all who (slice_set s.views id both) other spent_view
             (λ j u away e. ⊎_elim
-            (λ (t : (j ≡ id) × (both ≡ u)). subst (λ (y : ℕ × SeatView M). KnowsProgress h.0 all who y.0 y.1) (λ i. (sym t.0 i, t.1 i))
+            (λ (t : (j ≡ id) × (both ≡ u)). subst (λ (y : ℕ × SeatView M). KnowsProgress h.0 all who y.0 y.1)
+            (λ i. (sym t.0 i, t.1 i))
             ((λ _. (mine.0, refl)), (λ x is. (moved_here h.2 line id, here ∙ is))))
             (λ (t : (j ≢ id) × (get_elem? s.views j ≡ some u)).
             let old = h.3 j u t.1 in (
               (λ k. absurd (t.0 ((old.0 k).0 ∙ sym mine.0))),
               (λ x is.
-                  let o = old.1 x is in
-                  (moved_else h.2 line id u.line (λ same. away (sym o.0 ∙ ap h.2 same ∙ held.0)) ∙ o.0, ap (λ l. slice_get l u.line) mine.1 ∙ o.1)),
+                  let o = old.1 x is in (
+                    moved_else h.2 line id u.line (λ same. away (sym o.0 ∙ ap h.2 same ∙ held.0)) ∙ o.0,
+                    ap (λ l. slice_get l u.line) mine.1 ∙ o.1,
+                  )),
             ))
             (at_set s.views id j both u e))
             ((λ k. absurd (off k)), (λ x is. absurd (no_mark x is))),
@@ -191,27 +214,44 @@ module _ {M : Type 0} where
 
   -- the moves, at what is known of a seat
   pub opens_as : (id slots : ℕ) (me : Me M (SeatView M)) (all : List M) (m : M) (f : ℕ → ℕ) → me ≡ (keeper_of all, [])
-      → Allows {S = M} {V = SeatView M} (λ s. ViewsAgree s.views) slots id me 0 f (OpensLine (step slots 0 0 0 (some m)) me)
-  opens_as id slots me all m f is = subst (λ (u : Me M (SeatView M)). Allows {S = M} {V = SeatView M} (λ s. ViewsAgree s.views) slots id u 0 f (OpensLine (step slots 0 0 0 (some m)) u)) (sym is) (opens id slots all m f)
+      → Allows {S = M} {V = SeatView M} (λ s. ViewsAgree s.views) slots id me 0 f
+      (OpensLine (step slots 0 0 0 (some m)) me)
+  opens_as id slots me all m f is = subst (λ (u : Me M (SeatView M)). Allows {S = M} {V = SeatView M}
+      (λ s. ViewsAgree s.views) slots id u 0 f (OpensLine (step slots 0 0 0 (some m)) u))
+      (sym is) (opens id slots all m f)
 
-  pub notes_as : (id slots : ℕ) (me : Me M (SeatView M)) (all : List M) (line : ℕ) (n m : M) (f : ℕ → ℕ) → me ≡ (keeper_with all line (Some n), [])
-      → Allows {S = M} {V = SeatView M} (λ s. ViewsAgree s.views) slots id me 0 f (WritesLine (step slots 0 0 0 (some m)) me)
-  notes_as id slots me all line n m f is = subst (λ (u : Me M (SeatView M)). Allows {S = M} {V = SeatView M} (λ s. ViewsAgree s.views) slots id u 0 f (WritesLine (step slots 0 0 0 (some m)) u)) (sym is) (notes id slots all line n m f)
+  pub notes_as : (id slots : ℕ) (me : Me M (SeatView M)) (all : List M) (line : ℕ) (n m : M) (f : ℕ → ℕ)
+      → me ≡ (keeper_with all line (Some n), [])
+      → Allows {S = M} {V = SeatView M} (λ s. ViewsAgree s.views) slots id me 0 f
+      (WritesLine (step slots 0 0 0 (some m)) me)
+  notes_as id slots me all line n m f is = subst (λ (u : Me M (SeatView M)). Allows {S = M} {V = SeatView M}
+      (λ s. ViewsAgree s.views) slots id u 0 f (WritesLine (step slots 0 0 0 (some m)) u))
+      (sym is) (notes id slots all line n m f)
 
-  pub gives_as : (id : ℕ) (me : Me M (SeatView M)) (all : List M) (line : ℕ) (n : M) → me ≡ (keeper_with all line (Some n), [])
-      → Splits {S = M} {V = SeatView M} (λ s. ViewsAgree s.views) id me.0 (keeper_of me.0.all) (token_of me.0.line me.0.progress)
-  gives_as id me all line n is = subst (λ (u : Me M (SeatView M)). Splits {S = M} {V = SeatView M} (λ s. ViewsAgree s.views) id u.0 (keeper_of u.0.all) (token_of u.0.line u.0.progress)) (sym is) (gives id all line n)
+  pub gives_as : (id : ℕ) (me : Me M (SeatView M)) (all : List M) (line : ℕ) (n : M)
+      → me ≡ (keeper_with all line (Some n), [])
+      → Splits {S = M} {V = SeatView M} (λ s. ViewsAgree s.views) id me.0 (keeper_of me.0.all)
+      (token_of me.0.line me.0.progress)
+  gives_as id me all line n is = subst (λ (u : Me M (SeatView M)). Splits {S = M} {V = SeatView M}
+      (λ s. ViewsAgree s.views) id u.0 (keeper_of u.0.all) (token_of u.0.line u.0.progress))
+      (sym is) (gives id all line n)
 
-  pub takes_as : (id : ℕ) (me : Me M (SeatView M)) (all : List M) (other : ℕ) (you : Me M (SeatView M)) (line : ℕ) (n : M) → me ≡ (keeper_of all, []) → you ≡ (token_of line (Some n), [])
-      → Joins {S = M} {V = SeatView M} (λ s. ViewsAgree s.views) id me.0 other you.0 (keeper_with me.0.all you.0.line you.0.progress) spent_view
+  pub takes_as : (id : ℕ) (me : Me M (SeatView M)) (all : List M) (other : ℕ) (you : Me M (SeatView M)) (line : ℕ)
+      (n : M) → me ≡ (keeper_of all, []) → you ≡ (token_of line (Some n), [])
+      → Joins {S = M} {V = SeatView M} (λ s. ViewsAgree s.views) id me.0 other you.0
+      (keeper_with me.0.all you.0.line you.0.progress) spent_view
   takes_as id me all other you line n is are =
-      subst (λ (u : Me M (SeatView M)). Joins {S = M} {V = SeatView M} (λ s. ViewsAgree s.views) id u.0 other you.0 (keeper_with u.0.all you.0.line you.0.progress) spent_view) (sym is)
-      (subst (λ (u : Me M (SeatView M)). Joins {S = M} {V = SeatView M} (λ s. ViewsAgree s.views) id (keeper_of all) other u.0 (keeper_with all u.0.line u.0.progress) spent_view) (sym are) (takes id all other line n))
+      subst (λ (u : Me M (SeatView M)). Joins {S = M} {V = SeatView M} (λ s. ViewsAgree s.views) id u.0 other you.0
+      (keeper_with u.0.all you.0.line you.0.progress) spent_view) (sym is)
+      (subst (λ (u : Me M (SeatView M)). Joins {S = M} {V = SeatView M} (λ s. ViewsAgree s.views) id (keeper_of all)
+      other u.0 (keeper_with all u.0.line u.0.progress) spent_view) (sym are) (takes id all other line n))
 
   pub keeper_again : (me : Me M (SeatView M)) (all : List M) → me ≡ (keeper_of all, []) → me ≡ (keeper_of me.0.all, [])
-  keeper_again me all is = is ∙ ap (λ (l : List M). (keeper_of l, [])) (sym (ap (λ (u : Me M (SeatView M)). u.0.all) is))
+  keeper_again me all is =
+      is ∙ ap (λ (l : List M). (keeper_of l, [])) (sym (ap (λ (u : Me M (SeatView M)). u.0.all) is))
 
-  pub token_again : (me : Me M (SeatView M)) (line : ℕ) (n : M) → me ≡ (token_of line (Some n), []) → me ≡ (token_of me.0.line me.0.progress, [])
+  pub token_again : (me : Me M (SeatView M)) (line : ℕ) (n : M) → me ≡ (token_of line (Some n), [])
+      → me ≡ (token_of me.0.line me.0.progress, [])
   token_again me line n is = is ∙ ap (λ (u : Me M (SeatView M)). (token_of u.0.line u.0.progress, [])) (sym is)
 
   pub if_some : (o : Option M) (P : M → Type 0) → ((m : M) → o ≡ Some m → P m) → IfSome o P

@@ -1,5 +1,6 @@
 -- Steps of one core under no event, one behind the other, are such picks.
-use Rattle.std.proofs.Common.{◌≡◌, ℕ, ◌+◌, List, [], ◌∷◌, ◌++◌, Option, None, Some, false, length, replicate, refl, sym, ap, ◌∙◌, subst}
+use Rattle.std.proofs.Common.{◌≡◌, ℕ, ◌+◌, List, [], ◌∷◌, ◌++◌, Option, None, Some, false, length, replicate, refl, sym}
+use Rattle.std.proofs.Common.{ap, ◌∙◌, subst}
 use Rattle.std.proofs.Common.{append_assoc}
 use Rattle.std.specs.Prelude.{All, MatchOption, option_and_then, option_map}
 use Rattle.std.proofs.lemmas.List.{append-nil, replicate_more}
@@ -32,13 +33,15 @@ situation state doomed = record { state = state; doomed = doomed }
 abbrev ended_at : Setting → Situation → List (ℕ × Outcome) → State → Situation
 ended_at setting now history last = situation last (doomed_at_end setting now.state now.doomed history)
 
-goes : (setting : Setting) (taken : ℕ × Outcome) (history : List (ℕ × Outcome)) (now : Situation) (last : State) (after : Option State) →
+goes : (setting : Setting) (taken : ℕ × Outcome) (history : List (ℕ × Outcome)) (now : Situation) (last : State)
+    (after : Option State) →
     ((next : State) → AreOwed setting next (doomed_after setting now.state now.doomed taken.0 taken.1) history →
     run setting next history ≡ Some last →
     after_schedule setting (with_state setting now taken.0 taken.1 next) (picks_of history)
     ≡ Some (ended_at setting (with_state setting now taken.0 taken.1 next) history last)) →
     after_pick setting now (pick_of taken) ≡ option_map (with_state setting now taken.0 taken.1) after →
-    MatchOption after ⊥ (λ next. AreOwed setting next (doomed_after setting now.state now.doomed taken.0 taken.1) history) →
+    MatchOption after ⊥
+    (λ next. AreOwed setting next (doomed_after setting now.state now.doomed taken.0 taken.1) history) →
     option_and_then (λ next. run setting next history) after ≡ Some last →
     option_and_then (λ next. after_schedule setting next (picks_of history)) (after_pick setting now (pick_of taken))
     ≡ Some (situation last (elim after [
@@ -56,7 +59,8 @@ runs_as setting [] now last owed is_run = ap (λ (s : State). Some (situation s 
 runs_as setting (taken ∷ history) now last owed is_run =
     goes setting taken history now last (step setting now.state taken.0 taken.1)
     (λ next are_owed runs. runs_as setting history (with_state setting now taken.0 taken.1 next) last are_owed runs)
-    (ap (λ (o : Outcome). option_map (with_state setting now taken.0 o) (step setting now.state taken.0 o)) (sym owed.0))
+    (ap (λ (o : Outcome). option_map (with_state setting now taken.0 o) (step setting now.state taken.0 o))
+    (sym owed.0))
     owed.1 is_run
 
 -- ---- of one core
@@ -72,21 +76,27 @@ told_none Begun tells = refl
 told_none Inside tells = refl
 told_none Committed tells = refl
 
-picks_alone : (core : ℕ) (history : List (ℕ × Outcome)) → All (λ (taken : ℕ × Outcome). taken.0 ≡ core) history → TellNoAbort history →
+picks_alone : (core : ℕ) (history : List (ℕ × Outcome)) → All (λ (taken : ℕ × Outcome). taken.0 ≡ core) history
+    → TellNoAbort history →
     picks_of history ≡ replicate (length history) (alone core)
 picks_alone core [] own tells = refl
 picks_alone core (taken ∷ history) own tells =
     let P : ℕ × Outcome → Type 0 = λ t. t.0 ≡ core in
     let Q : ℕ × Outcome → Type 0 = λ t. is_aborted_by t.1 ≡ false in
     ap (λ (n : ℕ). record { core = n; event = event_told taken.1 } ∷ picks_of history) (All-head P taken history own)
-    ∙ (ap (λ (e : Option Event). record { core = core; event = e } ∷ picks_of history) (told_none taken.1 (All-head Q taken history tells))
-    ∙ ap (λ (ps : List Pick). alone core ∷ ps) (picks_alone core history (All-tail P taken history own) (All-tail Q taken history tells)))
+    ∙ (ap (λ (e : Option Event). record { core = core; event = e } ∷ picks_of history)
+    (told_none taken.1 (All-head Q taken history tells))
+    ∙ ap (λ (ps : List Pick). alone core ∷ ps)
+    (picks_alone core history (All-tail P taken history own) (All-tail Q taken history tells)))
 
-module _ (trial : Trial) (before after : Place) (core count : ℕ) (takes : TakesAlone before.machine after.machine core count) where
+module _ (trial : Trial) (before after : Place) (core count : ℕ)
+    (takes : TakesAlone before.machine after.machine core count) where
   pub place_alone : IsPlaceOf trial before → IsPlaceOf trial after
-  place_alone is = let (history, long, own, all) = takes in record { rules = all.same.rules ∙ is.rules; count = all.same.cores ∙ is.count }
+  place_alone is = let (history, long, own, all) = takes in
+      record { rules = all.same.rules ∙ is.rules; count = all.same.cores ∙ is.count }
 
-  pub at_alone : (schedule : List Pick) → IsAt trial before schedule → IsAt trial after (schedule ++ replicate count (alone core))
+  pub at_alone : (schedule : List Pick) → IsAt trial before schedule
+      → IsAt trial after (schedule ++ replicate count (alone core))
   at_alone schedule at =
       let (history, long, own, all) = takes in
       let setting : Setting = machine_setting before.machine in
@@ -100,7 +110,8 @@ module _ (trial : Trial) (before after : Place) (core count : ℕ) (takes : Take
       (runs_as setting history at.now t.last t.are_owed t.is_run)) in
       record {
         now = end;
-        is_run = run_then (trial_setting trial) (trial_opening trial) schedule (replicate count (alone core)) at.now end at.is_run runs;
+        is_run = run_then (trial_setting trial) (trial_opening trial) schedule (replicate count (alone core)) at.now
+            end at.is_run runs;
         rules = all.same.rules ∙ at.rules;
         count = all.same.cores ∙ at.count;
         stands = t.stands;
@@ -110,7 +121,8 @@ module _ (trial : Trial) (before after : Place) (core count : ℕ) (takes : Take
 
 module _ (trial : Trial) (here : Place) where
   -- one more
-  pub one_ahead : (ahead : Ahead) (pick : Pick) → pick ≡ alone ahead.core → (schedule : List Pick) → IsAhead trial here ahead schedule →
+  pub one_ahead : (ahead : Ahead) (pick : Pick) → pick ≡ alone ahead.core
+      → (schedule : List Pick) → IsAhead trial here ahead schedule →
       IsAhead trial here (record { core = ahead.core; count = ahead.count + 1 }) (schedule ++ pick ∷ [])
   one_ahead ahead pick is schedule so_far = record {
     made = so_far.made;
@@ -124,14 +136,18 @@ module _ (trial : Trial) (here : Place) where
   -- the first one
   pub first_ahead : (core : ℕ) (pick : Pick) → pick ≡ alone core → (schedule : List Pick) → IsAt trial here schedule →
       IsAhead trial here (record { core = core; count = 1 }) (schedule ++ pick ∷ [])
-  first_ahead core pick is schedule at = record { made = schedule; is = ap (λ (p : Pick). schedule ++ p ∷ []) is; at = at }
+  first_ahead core pick is schedule at =
+      record { made = schedule; is = ap (λ (p : Pick). schedule ++ p ∷ []) is; at = at }
 
-  pub none_ahead : (core : ℕ) (schedule : List Pick) → IsAt trial here schedule → IsAhead trial here (record { core = core; count = 0 }) schedule
+  pub none_ahead : (core : ℕ) (schedule : List Pick) → IsAt trial here schedule
+      → IsAhead trial here (record { core = core; count = 0 }) schedule
   none_ahead core schedule at = record { made = schedule; is = sym (append-nil schedule); at = at }
 
 -- they are made
-pub all_made : (trial : Trial) (before after : Place) (ahead : Ahead) (schedule : List Pick) → IsAhead trial before ahead schedule →
-    ((made : List Pick) → IsAt trial before made → IsAt trial after (made ++ replicate ahead.count (alone ahead.core))) →
+pub all_made : (trial : Trial) (before after : Place) (ahead : Ahead) (schedule : List Pick)
+    → IsAhead trial before ahead schedule →
+    ((made : List Pick) → IsAt trial before made → IsAt trial after (made ++ replicate ahead.count (alone ahead.core)))
+    →
     IsAt trial after schedule
 all_made trial before after ahead schedule so_far goes =
     subst (λ (s : List Pick). IsAt trial after s) (sym so_far.is) (goes so_far.made so_far.at)

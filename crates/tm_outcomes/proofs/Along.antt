@@ -22,7 +22,8 @@ pub along_before : (nodes : List Node) (way : List ℕ) (index : ℕ) →
     steps_along nodes (way ++ index ∷ []) ≡ steps_at nodes index ++ steps_along nodes way
 along_before nodes [] index =
     along_more nodes index [] ∙ (ap (λ (s : List Pick). s ++ steps_at nodes index) (along_none nodes)
-    ∙ (sym (append-nil (steps_at nodes index)) ∙ ap (λ (s : List Pick). steps_at nodes index ++ s) (sym (along_none nodes))))
+    ∙ (sym (append-nil (steps_at nodes index))
+    ∙ ap (λ (s : List Pick). steps_at nodes index ++ s) (sym (along_none nodes))))
 along_before nodes (last ∷ way) index =
     along_more nodes last (way ++ index ∷ [])
     ∙ (ap (λ (s : List Pick). s ++ steps_at nodes last) (along_before nodes way index)
@@ -34,7 +35,8 @@ all_behind P [] ys all = all
 all_behind P (x ∷ xs) ys all = all_behind P xs ys (All-tail P x (xs ++ ys) all)
 
 -- the steps of a node are picks
-pub steps_are_picks : (trial : Trial) (nodes : List Node) (schedules : List (List Pick)) → IsTree trial nodes schedules → (index : ℕ) →
+pub steps_are_picks : (trial : Trial) (nodes : List Node) (schedules : List (List Pick))
+    → IsTree trial nodes schedules → (index : ℕ) →
     0 < index → index < length nodes → All (IsPickOf trial) (steps_at nodes index)
 steps_are_picks trial nodes schedules tree index positive within =
     all_behind (IsPickOf trial) (schedule_at schedules (parent_at nodes index)) (steps_at nodes index)

@@ -1,5 +1,6 @@
 -- Machines whose memory is what it was but on the lines that were noted.
-use Rattle.std.proofs.Common.{◌≡◌, inl, inr, ℕ, zero, suc, ◌+◌, ◌<◌, List, [], ◌∷◌, ◌++◌, Option, Some, None, length, refl, sym, ap, ◌∙◌, subst, arith, length-append}
+use Rattle.std.proofs.Common.{◌≡◌, inl, inr, ℕ, zero, suc, ◌+◌, ◌<◌, List, [], ◌∷◌, ◌++◌, Option, Some, None, length}
+use Rattle.std.proofs.Common.{refl, sym, ap, ◌∙◌, subst, arith, length-append}
 use Rattle.std.specs.Prelude.{All, Contains, option_and_then}
 use Rattle.std.proofs.lemmas.Bool.{cases_lt}
 use Rattle.ia_image.specs.Program.{opening_memory}
@@ -27,13 +28,15 @@ use Rattle.tm_outcomes.proofs.Trees.{grows, schedule_new, schedule_old}
 -- ---- with more lines
 
 pub within_more : (trial : Trial) (lines more : List ℕ) (schedule : List Pick) →
-    ((line : ℕ) → Contains lines line → Contains more line) → IsWithin trial lines schedule → IsWithin trial more schedule
+    ((line : ℕ) → Contains lines line → Contains more line) → IsWithin trial lines schedule
+    → IsWithin trial more schedule
 within_more trial lines more schedule among within = λ now is_run.
     on_more lines more now.state.memory (opening_memory trial.program.now) among (within now is_run)
 
 module _ (trial : Trial) (before after : Written) (same : after.opening ≡ before.opening)
     (among : (line : ℕ) → Contains before.lines.items line → Contains after.lines.items line) where
-  opening_is : before.opening.items ≡ opening_memory trial.program.now → after.opening.items ≡ opening_memory trial.program.now
+  opening_is : before.opening.items ≡ opening_memory trial.program.now
+      → after.opening.items ≡ opening_memory trial.program.now
   opening_is is = ap (λ v. v.items) same ∙ is
 
   pub place_more : (place : Place) → IsPlaceIn trial before place → IsPlaceIn trial after place
@@ -50,13 +53,15 @@ module _ (trial : Trial) (before after : Written) (same : after.opening ≡ befo
     schedules = is.schedules;
     tree = is.tree;
     within = λ index below.
-        within_more trial before.lines.items after.lines.items (schedule_at is.schedules index) among (is.within index below);
+        within_more trial before.lines.items after.lines.items (schedule_at is.schedules index) among
+        (is.within index below);
   }
 
 -- ---- a step
 
 -- a schedule with a step more, whose stores were noted, and with the unseen steps behind it, which store nothing
-pub within_advanced : (trial : Trial) (lines : List ℕ) (schedule : List Pick) (place after : Place) (pick : Pick) (steps : List Pick) →
+pub within_advanced : (trial : Trial) (lines : List ℕ) (schedule : List Pick) (place after : Place) (pick : Pick)
+    (steps : List Pick) →
     IsAt trial place schedule → Advances trial place after pick steps → IsWithin trial lines schedule →
     ((now : Situation) → StandsFor place.machine now.state now.doomed →
     StoresOn (machine_setting place.machine) lines now pick.core) → IsWithin trial lines (schedule ++ steps)
@@ -75,7 +80,8 @@ within_advanced trial lines schedule place after pick steps at advances within n
     subst (λ (x : Situation). IsSameElsewhere lines x.state.memory (opening_memory trial.program.now)) same
     (subst (λ m. IsSameElsewhere lines m (opening_memory trial.program.now)) (sym memory)
     (then_same lines step.next.state.memory at.now.state.memory (opening_memory trial.program.now)
-    (subst (λ (rules : Setting). StoresOn rules lines at.now pick.core) at.rules (noted at.now at.stands) pick.event step.next
+    (subst (λ (rules : Setting). StoresOn rules lines at.now pick.core) at.rules (noted at.now at.stands)
+    pick.event step.next
     step.is_next) (within at.now at.is_run)))
 
 -- a machine at the end of such a schedule
@@ -91,7 +97,8 @@ place_at trial written place schedule opening is at within = record {
 
 -- ---- a node more
 
-written_new : (trial : Trial) (nodes after : List Node) (node : Node) (written : Written) (old : IsWrittenOf trial nodes written) →
+written_new : (trial : Trial) (nodes after : List Node) (node : Node) (written : Written)
+    (old : IsWrittenOf trial nodes written) →
     after ≡ nodes ++ node ∷ [] → node.parent < length nodes → All (IsPickOf trial) node.steps.items →
     HasRun trial (schedule_at old.schedules node.parent ++ node.steps.items) →
     IsWithin trial written.lines.items (schedule_at old.schedules node.parent ++ node.steps.items) →
@@ -99,8 +106,10 @@ written_new : (trial : Trial) (nodes after : List Node) (node : Node) (written :
 written_new trial nodes after node written old added parent are_picks has_run within =
     let last : List Pick = schedule_at old.schedules node.parent ++ node.steps.items in
     let grown : List (List Pick) = old.schedules ++ last ∷ [] in
-    let tree : IsTree trial (nodes ++ node ∷ []) grown = grows trial nodes old.schedules node old.tree parent are_picks has_run in
-    let long : length after ≡ length nodes + 1 = ap (λ (ns : List Node). length ns) added ∙ length-append nodes (node ∷ []) in
+    let tree : IsTree trial (nodes ++ node ∷ []) grown =
+    grows trial nodes old.schedules node old.tree parent are_picks has_run in
+    let long : length after ≡ length nodes + 1 =
+    ap (λ (ns : List Node). length ns) added ∙ length-append nodes (node ∷ []) in
     let counted : length old.schedules ≡ length nodes = old.tree.counted in
     record {
       opening = old.opening;
@@ -119,7 +128,8 @@ written_new trial nodes after node written old added parent are_picks has_run wi
 -- ---- the machine that stands at a node
 
 -- a node has one schedule
-pub one_schedule : (trial : Trial) (nodes : List Node) (one other : List (List Pick)) → IsTree trial nodes one → IsTree trial nodes other →
+pub one_schedule : (trial : Trial) (nodes : List Node) (one other : List (List Pick)) → IsTree trial nodes one
+    → IsTree trial nodes other →
     (most index : ℕ) → index < most → index < length nodes → schedule_at one index ≡ schedule_at other index
 one_schedule trial nodes one other a b zero index below within = absurd (omega arith)
 one_schedule trial nodes one other a b (suc most) index below within = elim (cases_lt 0 index) [
@@ -127,23 +137,29 @@ one_schedule trial nodes one other a b (suc most) index below within = elim (cas
       let lower = a.lower index positive within in
       let before : schedule_at one (parent_at nodes index) ≡ schedule_at other (parent_at nodes index) =
       one_schedule trial nodes one other a b most (parent_at nodes index) (omega arith) (omega arith) in
-      a.longer index positive within ∙ (ap (λ (s : List Pick). s ++ steps_at nodes index) before ∙ sym (b.longer index positive within))
+      a.longer index positive within
+      ∙ (ap (λ (s : List Pick). s ++ steps_at nodes index) before ∙ sym (b.longer index positive within))
   | inr none ↦
       let first : index ≡ 0 = omega arith in
       ap (schedule_at one) first ∙ (a.root ∙ (sym b.root ∙ ap (schedule_at other) (sym first)))
 ]
 
 -- it stands there in a tree with a node more
-pub at_grown : (trial : Trial) (nodes after : List Node) (node : Node) (schedules : List (List Pick)) (place : Place) (at : Option ℕ) →
-    IsTree trial nodes schedules → after ≡ nodes ++ node ∷ [] → node.parent < length nodes → All (IsPickOf trial) node.steps.items →
-    HasRun trial (schedule_at schedules node.parent ++ node.steps.items) → IsAtNode trial nodes place at → IsAtNode trial after place at
+pub at_grown : (trial : Trial) (nodes after : List Node) (node : Node) (schedules : List (List Pick)) (place : Place)
+    (at : Option ℕ) →
+    IsTree trial nodes schedules → after ≡ nodes ++ node ∷ [] → node.parent < length nodes
+    → All (IsPickOf trial) node.steps.items →
+    HasRun trial (schedule_at schedules node.parent ++ node.steps.items) → IsAtNode trial nodes place at
+    → IsAtNode trial after place at
 at_grown trial nodes after node schedules place None tree added parent are_picks has_run is = tt
 at_grown trial nodes after node schedules place (Some index) tree added parent are_picks has_run is =
     let last : List Pick = schedule_at schedules node.parent ++ node.steps.items in
     let grown : List (List Pick) = schedules ++ last ∷ [] in
     let more : IsTree trial after grown =
-    subst (λ (ns : List Node). IsTree trial ns grown) (sym added) (grows trial nodes schedules node tree parent are_picks has_run) in
-    let long : length after ≡ length nodes + 1 = ap (λ (ns : List Node). length ns) added ∙ length-append nodes (node ∷ []) in
+    subst (λ (ns : List Node). IsTree trial ns grown) (sym added)
+    (grows trial nodes schedules node tree parent are_picks has_run) in
+    let long : length after ≡ length nodes + 1 =
+    ap (λ (ns : List Node). length ns) added ∙ length-append nodes (node ∷ []) in
     let counted : length schedules ≡ length nodes = tree.counted in
     let within = is.0 in
     let below : index < length after = omega arith in (
@@ -159,7 +175,8 @@ at_grown trial nodes after node schedules place (Some index) tree added parent a
 pub bench_advanced : (trial : Trial) (nodes : List Node) (bench : Bench) (here : Place) (noted : Written) →
     noted.opening ≡ bench.noted.opening →
     ((line : ℕ) → Contains bench.noted.lines.items line → Contains noted.lines.items line) →
-    IsPlaceIn trial noted here → IsBenchOf trial nodes bench → IsBenchOf trial nodes (record bench { here = here; noted = noted })
+    IsPlaceIn trial noted here → IsBenchOf trial nodes bench
+    → IsBenchOf trial nodes (record bench { here = here; noted = noted })
 bench_advanced trial nodes bench here noted same among is_in is = record {
   start = place_more trial bench.noted noted same among bench.start is.start;
   at = is.at;
@@ -169,14 +186,16 @@ bench_advanced trial nodes bench here noted same among is_in is = record {
 }
 
 -- and for a node more
-pub bench_grown : (trial : Trial) (nodes after : List Node) (node : Node) (bench : Bench) (is : IsBenchOf trial nodes bench) →
+pub bench_grown : (trial : Trial) (nodes after : List Node) (node : Node) (bench : Bench)
+    (is : IsBenchOf trial nodes bench) →
     after ≡ nodes ++ node ∷ [] → node.parent < length nodes → All (IsPickOf trial) node.steps.items →
     HasRun trial (schedule_at is.written.schedules node.parent ++ node.steps.items) →
     IsWithin trial bench.noted.lines.items (schedule_at is.written.schedules node.parent ++ node.steps.items) →
     IsBenchOf trial after bench
 bench_grown trial nodes after node bench is added parent are_picks has_run within = record {
   start = is.start;
-  at = at_grown trial nodes after node is.written.schedules bench.start bench.at is.written.tree added parent are_picks has_run is.at;
+  at = at_grown trial nodes after node is.written.schedules bench.start bench.at is.written.tree added parent
+      are_picks has_run is.at;
   here = is.here;
   other = is.other;
   written = written_new trial nodes after node bench.noted is.written added parent are_picks has_run within;
@@ -196,6 +215,7 @@ written_first trial nodes written schedules opening tree one = record {
       let root : schedule_at schedules index ≡ [] = subst (λ n. schedule_at schedules n ≡ []) first tree.root in
       let at : trial_opening trial ≡ now =
       same_in (ap (after_schedule (trial_setting trial) (trial_opening trial)) (sym root) ∙ is_run) in
-      subst (λ (x : Situation). IsSameElsewhere written.lines.items x.state.memory (opening_memory trial.program.now)) at
+      subst (λ (x : Situation). IsSameElsewhere written.lines.items x.state.memory (opening_memory trial.program.now))
+      at
       (record { count = refl; same = λ address. inr refl });
 }

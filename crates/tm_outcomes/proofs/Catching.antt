@@ -1,5 +1,6 @@
 -- A schedule from a situation, and one that is no longer from where unseen steps lead from there: they meet again.
-use Rattle.std.proofs.Common.{◌≡◌, ◌⊎◌, inl, inr, ℕ, ◌<◌, ◌≤◌, Bool, true, false, cond, List, [], ◌∷◌, ◌++◌, Option, Some, None, length, refl, sym, ap, ◌∙◌, subst, arith}
+use Rattle.std.proofs.Common.{◌≡◌, ◌⊎◌, inl, inr, ℕ, ◌<◌, ◌≤◌, Bool, true, false, cond, List, [], ◌∷◌, ◌++◌, Option}
+use Rattle.std.proofs.Common.{Some, None, length, refl, sym, ap, ◌∙◌, subst, arith}
 use Rattle.std.specs.Prelude.{All, nat_eq, option_and_then}
 use Rattle.std.proofs.lemmas.Bool.{eq-eqb, eqb-true, false≢true, ltb-true}
 use Rattle.std.proofs.lemmas.List.Elements.{All-cons, All-head, All-nil, All-tail}
@@ -14,7 +15,8 @@ use Rattle.tm_outcomes.specs.Verdicts.{HasStoppedBy, StopsBy}
 use Rattle.tm_outcomes.proofs.Crossing.{picked, same_under_any, unseen_at, unseen_first, unseen_goes}
 use Rattle.tm_outcomes.proofs.Somes.{same_in}
 
-pub split : (o : Option Situation) (f : Situation → Option Situation) (end : Situation) → option_and_then f o ≡ Some end →
+pub split : (o : Option Situation) (f : Situation → Option Situation) (end : Situation)
+    → option_and_then f o ≡ Some end →
     (middle : Situation) × ((o ≡ Some middle) × (f middle ≡ Some end))
 split (Some middle) f end e = (middle, (refl, e))
 split None f end e = absurd (cc)
@@ -24,21 +26,26 @@ module _ (setting : Setting) (allowed : Option Event → Type 0) where
 
   pub then_lead : (picks more : List Pick) (now middle end : Situation) → LeadUnseen setting allowed now picks middle →
       LeadUnseen setting allowed middle more end → LeadUnseen setting allowed now (picks ++ more) end
-  then_lead [] more now middle end one other = subst (λ (x : Situation). LeadUnseen setting allowed x more end) (sym one) other
+  then_lead [] more now middle end one other =
+      subst (λ (x : Situation). LeadUnseen setting allowed x more end) (sym one) other
   then_lead (pick ∷ picks) more now middle end one other =
       (one.0, one.1, (one.2.0, (one.2.1.0, then_lead picks more one.2.0 middle end one.2.1.1 other)))
 
-  pub lead_runs : (picks : List Pick) (now end : Situation) → LeadUnseen setting allowed now picks end → after_schedule setting now picks ≡ Some end
+  pub lead_runs : (picks : List Pick) (now end : Situation) → LeadUnseen setting allowed now picks end
+      → after_schedule setting now picks ≡ Some end
   lead_runs [] now end lead = ap Some lead
   lead_runs (pick ∷ picks) now end lead =
-      ap (option_and_then (λ next. after_schedule setting next picks)) lead.2.1.0 ∙ lead_runs picks lead.2.0 end lead.2.1.1
+      ap (option_and_then (λ next. after_schedule setting next picks)) lead.2.1.0
+      ∙ lead_runs picks lead.2.0 end lead.2.1.1
 
-  pub lead_allowed : (picks : List Pick) (now end : Situation) → LeadUnseen setting allowed now picks end → All (λ (pick : Pick). allowed pick.event) picks
+  pub lead_allowed : (picks : List Pick) (now end : Situation) → LeadUnseen setting allowed now picks end
+      → All (λ (pick : Pick). allowed pick.event) picks
   lead_allowed [] now end lead = All-nil (λ (pick : Pick). allowed pick.event)
   lead_allowed (pick ∷ picks) now end lead =
       All-cons (λ (pick : Pick). allowed pick.event) pick picks lead.1 (lead_allowed picks lead.2.0 end lead.2.1.1)
 
-  pub lead_memory : (picks : List Pick) (now end : Situation) → LeadUnseen setting allowed now picks end → end.state.memory ≡ now.state.memory
+  pub lead_memory : (picks : List Pick) (now end : Situation) → LeadUnseen setting allowed now picks end
+      → end.state.memory ≡ now.state.memory
   lead_memory [] now end lead = ap (λ (x : Situation). x.state.memory) (sym lead)
   lead_memory (pick ∷ picks) now end lead =
       let step = picked setting now lead.2.0 pick lead.2.1.0 in
@@ -48,24 +55,30 @@ module _ (setting : Setting) (allowed : Option Event → Type 0) where
 
   -- ---- where cores have stopped
 
-  halted_sees : (memory : List ℕ) (core : Core) (doom : Option ℕ) (why : Stop) → HasStoppedBy core why → is_unseen setting memory core doom ≡ false
+  halted_sees : (memory : List ℕ) (core : Core) (doom : Option ℕ) (why : Stop) → HasStoppedBy core why
+      → is_unseen setting memory core doom ≡ false
   halted_sees memory core doom why (regs, is) = ap (λ (x : Core). is_unseen setting memory x doom) is
 
   -- from where each has stopped there is none
-  pub ended_rests : (picks : List Pick) (now end : Situation) → HasEnded now.state → LeadUnseen setting allowed now picks end → now ≡ end
+  pub ended_rests : (picks : List Pick) (now end : Situation) → HasEnded now.state
+      → LeadUnseen setting allowed now picks end → now ≡ end
   ended_rests [] now end ended lead = lead
   ended_rests (pick ∷ picks) now end ended lead =
       let step = picked setting now lead.2.0 pick lead.2.1.0 in
       let halted = ended pick.core (ltb-true pick.core now.state.count step.below) in
-      absurd (false≢true (sym (halted_sees now.state.memory (now.state.cores pick.core) (now.doomed pick.core) halted.1.0 (halted.0, halted.1.1)) ∙ lead.0))
+      absurd (false≢true (sym (halted_sees now.state.memory (now.state.cores pick.core) (now.doomed pick.core)
+      halted.1.0 (halted.0, halted.1.1)) ∙ lead.0))
 
-  stays : (now next : Situation) (pick : Pick) (why : Stop) → IsUnseen setting now pick.core → after_pick setting now pick ≡ Some next →
+  stays : (now next : Situation) (pick : Pick) (why : Stop) → IsUnseen setting now pick.core
+      → after_pick setting now pick ≡ Some next →
       StopsBy now.state why → StopsBy next.state why
   stays now next pick why unseen goes stopped =
       let step = picked setting now next pick goes in
       let core : ℕ = stopped.0 in
       let other : nat_eq core pick.core ≡ false =
-      not_same core pick.core (λ same. absurd (false≢true (sym (halted_sees now.state.memory (now.state.cores pick.core) (now.doomed pick.core) why
+      not_same core pick.core
+      (λ same.
+      absurd (false≢true (sym (halted_sees now.state.memory (now.state.cores pick.core) (now.doomed pick.core) why
       (subst (λ n. HasStoppedBy (now.state.cores n) why) same stopped.2)) ∙ unseen))) in (
         core,
         subst (λ (x : Situation). core < x.state.count) (sym step.is_next) stopped.1,
@@ -81,7 +94,8 @@ module _ (setting : Setting) (allowed : Option Event → Type 0) where
       not_same a b differs = by_test a b (nat_eq a b) refl differs
 
   -- one that has stopped stays so
-  pub stays_stopped : (picks : List Pick) (now end : Situation) (why : Stop) → LeadUnseen setting allowed now picks end →
+  pub stays_stopped : (picks : List Pick) (now end : Situation) (why : Stop)
+      → LeadUnseen setting allowed now picks end →
       StopsBy now.state why → StopsBy end.state why
   stays_stopped [] now end why lead stopped = subst (λ (x : Situation). StopsBy x.state why) lead stopped
   stays_stopped (pick ∷ picks) now end why lead stopped =
@@ -109,7 +123,8 @@ module _ (setting : Setting) (allowed : Option Event → Type 0) where
       turned true is = absurd (false≢true (sym e ∙ eq-eqb a b (sym (eqb-true b a is))))
       turned false is = is
 
-  pub one_beside : (picks : List Pick) (now end next : Situation) (pick : Pick) → LeadUnseen setting allowed now picks end →
+  pub one_beside : (picks : List Pick) (now end next : Situation) (pick : Pick)
+      → LeadUnseen setting allowed now picks end →
       after_pick setting now pick ≡ Some next → IsAmong next end ⊎ IsBeside next end pick
   one_beside [] now end next pick lead goes = inr (record {
     after = next;
@@ -117,25 +132,30 @@ module _ (setting : Setting) (allowed : Option Event → Type 0) where
     picks = [];
     leads = refl;
   })
-  one_beside (first ∷ picks) now end next pick lead goes = elim (differs pick.core first.core (nat_eq pick.core first.core) refl) [
-    | inl same ↦
-        let is : lead.2.0 ≡ next = same_in (sym (same_under_any setting now lead.2.0 first pick lead.0 (sym same) lead.2.1.0) ∙ goes) in
-        inl (record { picks = picks; leads = subst (λ (x : Situation). LeadUnseen setting allowed x picks end) is lead.2.1.1 })
-    | inr apart ↦
-        let cross = unseen_first setting now lead.2.0 next first pick lead.0 apart.0 apart.1 lead.2.1.0 goes in
-        elim (one_beside picks lead.2.0 end cross.end pick lead.2.1.1 cross.other_last) [
-          | inl among ↦ inl (record {
-            picks = first ∷ among.picks;
-            leads = (cross.still, lead.1, (cross.end, (cross.one_last, among.leads)));
-          })
-          | inr beside ↦ inr (record {
-            after = beside.after;
-            is_after = beside.is_after;
-            picks = first ∷ beside.picks;
-            leads = (cross.still, lead.1, (cross.end, (cross.one_last, beside.leads)));
-          })
-        ]
-  ]
+  one_beside (first ∷ picks) now end next pick lead goes =
+      elim (differs pick.core first.core (nat_eq pick.core first.core) refl) [
+        | inl same ↦
+            let is : lead.2.0 ≡ next =
+            same_in (sym (same_under_any setting now lead.2.0 first pick lead.0 (sym same) lead.2.1.0) ∙ goes) in
+            inl (record {
+              picks = picks;
+              leads = subst (λ (x : Situation). LeadUnseen setting allowed x picks end) is lead.2.1.1;
+            })
+        | inr apart ↦
+            let cross = unseen_first setting now lead.2.0 next first pick lead.0 apart.0 apart.1 lead.2.1.0 goes in
+            elim (one_beside picks lead.2.0 end cross.end pick lead.2.1.1 cross.other_last) [
+              | inl among ↦ inl (record {
+                picks = first ∷ among.picks;
+                leads = (cross.still, lead.1, (cross.end, (cross.one_last, among.leads)));
+              })
+              | inr beside ↦ inr (record {
+                after = beside.after;
+                is_after = beside.is_after;
+                picks = first ∷ beside.picks;
+                leads = (cross.still, lead.1, (cross.end, (cross.one_last, beside.leads)));
+              })
+            ]
+      ]
 
   -- ---- a schedule beside unseen steps
 
@@ -149,7 +169,8 @@ module _ (setting : Setting) (allowed : Option Event → Type 0) where
     pub leads : LeadUnseen setting allowed end steps last
 
   pub catches_up : (schedule steps : List Pick) (now rest end : Situation) → LeadUnseen setting allowed now steps rest →
-      All (λ (pick : Pick). allowed pick.event) schedule → after_schedule setting now schedule ≡ Some end → CatchesUp schedule end rest
+      All (λ (pick : Pick). allowed pick.event) schedule → after_schedule setting now schedule ≡ Some end
+      → CatchesUp schedule end rest
   catches_up [] steps now rest end lead all run = record {
     picks = [];
     few = omega arith;

@@ -1,5 +1,6 @@
 -- A search that has followed each node has met the end of each schedule.
-use Rattle.std.proofs.Common.{◌≡◌, ℕ, zero, suc, ◌<◌, ◌≤◌, Bool, true, false, cond, List, [], ◌∷◌, ◌++◌, Option, Some, None, length, refl, sym, ap, ◌∙◌, subst, arith}
+use Rattle.std.proofs.Common.{◌≡◌, ℕ, zero, suc, ◌<◌, ◌≤◌, Bool, true, false, cond, List, [], ◌∷◌, ◌++◌, Option, Some}
+use Rattle.std.proofs.Common.{None, length, refl, sym, ap, ◌∙◌, subst, arith}
 use Rattle.std.specs.Prelude.{nat_lt, option_map}
 use Rattle.std.proofs.lemmas.Bool.{ltb-true}
 use Rattle.std.proofs.lemmas.List.Elements.{All-head, All-tail}
@@ -19,7 +20,8 @@ use Rattle.tm_outcomes.proofs.Catching.{catches_up, ended_rests, split, then_lea
 use Rattle.tm_outcomes.proofs.Somes.{same_in}
 
 -- only a core that is there steps
-there : (below : Bool) (f : State → Situation) (o : Option State) (middle : Situation) → option_map f (cond below o None) ≡ Some middle → below ≡ true
+there : (below : Bool) (f : State → Situation) (o : Option State) (middle : Situation)
+    → option_map f (cond below o None) ≡ Some middle → below ≡ true
 there true f o middle e = refl
 there false f o middle e = absurd (cc)
 
@@ -47,7 +49,8 @@ pub record Meets (trial : Trial) (schedules : List (List Pick)) (now : Situation
 module _ (trial : Trial) (schedules : List (List Pick)) (links : List Link)
     (followed : (index : ℕ) → index < length schedules → (pick : Pick) → IsPickOf trial pick →
     IsFollowed trial schedules links index pick) where
-  pub steps_to : (pick : Pick) (now next : Situation) (index : ℕ) → IsAllowedIn trial pick → LeadsTo trial schedules index now →
+  pub steps_to : (pick : Pick) (now next : Situation) (index : ℕ) → IsAllowedIn trial pick
+      → LeadsTo trial schedules index now →
       after_pick (trial_setting trial) now pick ≡ Some next → Reaches trial schedules links index next
   steps_to pick now next index allowed leads e =
       let setting = trial_setting trial in
@@ -68,8 +71,10 @@ module _ (trial : Trial) (schedules : List (List Pick)) (links : List Link)
       }
 
   -- by the length of the schedule: each link takes a step of it, and what is left of it is no longer
-  pub reach : (most : ℕ) (picks : List Pick) (now end : Situation) (index : ℕ) → length picks ≤ most → AreAllowed trial picks →
-      LeadsTo trial schedules index now → after_schedule (trial_setting trial) now picks ≡ Some end → Meets trial schedules end
+  pub reach : (most : ℕ) (picks : List Pick) (now end : Situation) (index : ℕ) → length picks ≤ most
+      → AreAllowed trial picks →
+      LeadsTo trial schedules index now → after_schedule (trial_setting trial) now picks ≡ Some end
+      → Meets trial schedules end
   reach most [] now end index few allowed leads e = record {
     index = index;
     steps = [];
@@ -85,7 +90,8 @@ module _ (trial : Trial) (schedules : List (List Pick)) (links : List Link)
       let step = steps_to pick now parts.0 index (All-head (IsAllowedIn trial) pick picks allowed) leads parts.1.0 in
       let up = catches_up setting under picks step.rest parts.0 step.end end step.rests
       (All-tail (IsAllowedIn trial) pick picks allowed) parts.1.1 in
-      let met = reach most up.picks step.end up.last step.to (let f = up.few in omega arith) up.are_allowed step.leads up.is_run in
+      let met = reach most up.picks step.end up.last step.to (let f = up.few in omega arith) up.are_allowed
+      step.leads up.is_run in
       record {
         index = met.index;
         steps = up.steps ++ met.steps;
@@ -95,7 +101,8 @@ module _ (trial : Trial) (schedules : List (List Pick)) (links : List Link)
       }
 
 -- what the schedule of a node leads to
-pub leads_here : (trial : Trial) (schedules : List (List Pick)) (index : ℕ) (now : Situation) → index < length schedules →
+pub leads_here : (trial : Trial) (schedules : List (List Pick)) (index : ℕ) (now : Situation)
+    → index < length schedules →
     after_schedule (trial_setting trial) (trial_opening trial) (schedule_at schedules index) ≡ Some now →
     now.state.count ≡ length trial.program.now.entries → LeadsTo trial schedules index now
 leads_here trial schedules index now within is_run count = record {
@@ -125,7 +132,8 @@ module _ (trial : Trial) (most done : ℕ) (search : Searching) (schedules : Lis
       let there = met schedule now reached in (
         there.index,
         subst (λ (x : Situation). LeadsTo trial schedules there.index x)
-            (sym (ended_rests (trial_setting trial) (IsAllowed trial.events) there.steps now there.end has_ended there.rests)) there.leads,
+            (sym (ended_rests (trial_setting trial) (IsAllowed trial.events) there.steps now there.end has_ended
+            there.rests)) there.leads,
       )
 
   -- so each outcome is told
@@ -133,6 +141,8 @@ module _ (trial : Trial) (most done : ℕ) (search : Searching) (schedules : Lis
       AreTold search.found.outcomes.items values
   all_told schedule values outcome =
       let counted = searching.tree.counted in
-      let there = met_end schedule outcome.end (record { allowed = outcome.allowed; is_run = outcome.is_run }) outcome.has_ended in
+      let there =
+      met_end schedule outcome.end (record { allowed = outcome.allowed; is_run = outcome.is_run }) outcome.has_ended in
       subst (λ (v : List ℕ). AreTold search.found.outcomes.items v) (sym outcome.shown)
-      ((searching.explored.shown there.0 (let w = there.1.within in omega arith)).outcome outcome.end there.1 outcome.has_ended)
+      ((searching.explored.shown there.0 (let w = there.1.within in omega arith)).outcome outcome.end there.1
+      outcome.has_ended)

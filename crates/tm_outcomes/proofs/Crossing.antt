@@ -16,7 +16,8 @@ use Rattle.tm_outcomes.proofs.Somes.{same_in}
 use Rattle.tm_outcomes.proofs.UnseenCores.{IsUnseenStep, unseen_step, untouched}
 
 pub same_situation : (a b : Situation) → a.state.memory ≡ b.state.memory → a.state.count ≡ b.state.count →
-    ((number : ℕ) → a.state.cores number ≡ b.state.cores number) → ((number : ℕ) → a.doomed number ≡ b.doomed number) → a ≡ b
+    ((number : ℕ) → a.state.cores number ≡ b.state.cores number)
+    → ((number : ℕ) → a.doomed number ≡ b.doomed number) → a ≡ b
 same_situation a b memory count cores doomed = λ i. record {
   state = record { memory = memory i; count = count i; cores = fun_ext cores i };
   doomed = fun_ext doomed i;
@@ -30,42 +31,56 @@ moved setting now core outcome made = with_state setting now core outcome (state
 pub record IsPicked (setting : Setting) (now : Situation) (pick : Pick) (next : Situation) : Type 0 where
   pub below : nat_lt pick.core now.state.count ≡ true
   pub made : List ℕ × Core
-  pub is_made : after_step_of setting now.state.memory (now.state.cores pick.core) (owed_by setting now pick) ≡ Some made
+  pub is_made : after_step_of setting now.state.memory (now.state.cores pick.core) (owed_by setting now pick)
+      ≡ Some made
   pub is_next : next ≡ moved setting now pick.core (owed_by setting now pick) made
 
-picked_by : (setting : Setting) (now next : Situation) (pick : Pick) (below : Bool) (change : Change) → nat_lt pick.core now.state.count ≡ below →
+picked_by : (setting : Setting) (now next : Situation) (pick : Pick) (below : Bool) (change : Change)
+    → nat_lt pick.core now.state.count ≡ below →
     after_step_of setting now.state.memory (now.state.cores pick.core) (owed_by setting now pick) ≡ change →
-    option_map (with_state setting now pick.core (owed_by setting now pick)) (cond below (option_map (state_with now.state pick.core) change) None) ≡ Some next →
+    option_map (with_state setting now pick.core (owed_by setting now pick))
+    (cond below (option_map (state_with now.state pick.core) change) None) ≡ Some next →
     IsPicked setting now pick next
-picked_by setting now next pick true (Some made) below is_made e = record { below = below; made = made; is_made = is_made; is_next = sym (same_in e) }
+picked_by setting now next pick true (Some made) below is_made e =
+    record { below = below; made = made; is_made = is_made; is_next = sym (same_in e) }
 picked_by setting now next pick true None below is_made e = absurd (cc)
 picked_by setting now next pick false change below is_made e = absurd (cc)
 
-pub picked : (setting : Setting) (now next : Situation) (pick : Pick) → after_pick setting now pick ≡ Some next → IsPicked setting now pick next
+pub picked : (setting : Setting) (now next : Situation) (pick : Pick) → after_pick setting now pick ≡ Some next
+    → IsPicked setting now pick next
 picked setting now next pick e =
     picked_by setting now next pick (nat_lt pick.core now.state.count)
     (after_step_of setting now.state.memory (now.state.cores pick.core) (owed_by setting now pick)) refl refl e
 
-pub picks : (setting : Setting) (now : Situation) (pick : Pick) (outcome : Outcome) (made : List ℕ × Core) → nat_lt pick.core now.state.count ≡ true →
-    owed_by setting now pick ≡ outcome → after_step_of setting now.state.memory (now.state.cores pick.core) outcome ≡ Some made →
+pub picks : (setting : Setting) (now : Situation) (pick : Pick) (outcome : Outcome) (made : List ℕ × Core)
+    → nat_lt pick.core now.state.count ≡ true →
+    owed_by setting now pick ≡ outcome
+    → after_step_of setting now.state.memory (now.state.cores pick.core) outcome ≡ Some made →
     after_pick setting now pick ≡ Some (moved setting now pick.core outcome made)
 picks setting now pick outcome made below owed is_made =
     ap (λ (o : Outcome). option_map (with_state setting now pick.core o) (step setting now.state pick.core o)) owed
     ∙ (ap (λ t. option_map (with_state setting now pick.core outcome)
-    (cond t (option_map (state_with now.state pick.core) (after_step_of setting now.state.memory (now.state.cores pick.core) outcome)) None)) below
-    ∙ ap (λ (c : Change). option_map (with_state setting now pick.core outcome) (option_map (state_with now.state pick.core) c)) is_made)
+    (cond t
+    (option_map (state_with now.state pick.core)
+    (after_step_of setting now.state.memory (now.state.cores pick.core) outcome)) None)) below
+    ∙ ap (λ (c : Change). option_map (with_state setting now pick.core outcome)
+    (option_map (state_with now.state pick.core) c)) is_made)
 
-abbrev pub rested : (setting : Setting) (now : Situation) (core : ℕ) → IsUnseenStep setting (now.state.cores core) (now.doomed core) → Situation
+abbrev pub rested : (setting : Setting) (now : Situation) (core : ℕ)
+    → IsUnseenStep setting (now.state.cores core) (now.doomed core) → Situation
 rested setting now core is = moved setting now core is.outcome (now.state.memory, is.next)
 
-pub unseen_at : (setting : Setting) (now : Situation) (core : ℕ) → IsUnseen setting now core → IsUnseenStep setting (now.state.cores core) (now.doomed core)
+pub unseen_at : (setting : Setting) (now : Situation) (core : ℕ) → IsUnseen setting now core
+    → IsUnseenStep setting (now.state.cores core) (now.doomed core)
 unseen_at setting now core unseen = unseen_step setting now.state.memory (now.state.cores core) (now.doomed core) unseen
 
 -- whatever the event
-pub unseen_goes : (setting : Setting) (now : Situation) (pick : Pick) (is : IsUnseenStep setting (now.state.cores pick.core) (now.doomed pick.core)) →
+pub unseen_goes : (setting : Setting) (now : Situation) (pick : Pick)
+    (is : IsUnseenStep setting (now.state.cores pick.core) (now.doomed pick.core)) →
     nat_lt pick.core now.state.count ≡ true → after_pick setting now pick ≡ Some (rested setting now pick.core is)
 unseen_goes setting now pick is below =
-    picks setting now pick is.outcome (now.state.memory, is.next) below (is.is_owed pick.event now.state.memory) (is.is_made now.state.memory)
+    picks setting now pick is.outcome (now.state.memory, is.next) below (is.is_owed pick.event now.state.memory)
+    (is.is_made now.state.memory)
 
 -- ---- in either order
 
@@ -85,7 +100,8 @@ module _ (setting : Setting) (now : Situation) (one other : Pick)
     (is : IsUnseenStep setting (now.state.cores one.core) (now.doomed one.core))
     (below_one : nat_lt one.core now.state.count ≡ true) (below_other : nat_lt other.core now.state.count ≡ true)
     (made : List ℕ × Core)
-    (is_made : after_step_of setting now.state.memory (now.state.cores other.core) (owed_by setting now other) ≡ Some made)
+    (is_made :
+    after_step_of setting now.state.memory (now.state.cores other.core) (owed_by setting now other) ≡ Some made)
     (apart : nat_eq other.core one.core ≡ false) (apart_too : nat_eq one.core other.core ≡ false) where
   abbrev outcome : Outcome
   outcome = owed_by setting now other
@@ -110,14 +126,16 @@ module _ (setting : Setting) (now : Situation) (one other : Pick)
       let stores : List ℕ = addresses_stored_by setting memory (now.state.cores one.core) is.outcome in
       ap (λ t. cond t (doom_after_own is.outcome (now.doomed one.core))
       (doom_after_other setting memory loads stores (now.state.cores number) (now.doomed number))) e
-      ∙ (ap (λ l. doom_after_other setting memory l stores (now.state.cores number) (now.doomed number)) (is.loads memory)
+      ∙ (ap (λ l. doom_after_other setting memory l stores (now.state.cores number) (now.doomed number))
+      (is.loads memory)
       ∙ (ap (λ s. doom_after_other setting memory [] s (now.state.cores number) (now.doomed number)) (is.stores memory)
       ∙ untouched setting memory (now.state.cores number) (now.doomed number)))
 
   owed_first : owed_by setting first other ≡ outcome
   owed_first =
       ap (λ (x : Core). owed_under other.event setting memory x (first.doomed other.core)) (first_core other.core apart)
-      ∙ ap (λ (d : Option ℕ). owed_under other.event setting memory (now.state.cores other.core) d) (first_doom other.core apart)
+      ∙ ap (λ (d : Option ℕ). owed_under other.event setting memory (now.state.cores other.core) d)
+      (first_doom other.core apart)
 
   other_last : after_pick setting first other ≡ Some (moved setting first other.core outcome made)
   other_last =
@@ -183,32 +201,39 @@ module _ (setting : Setting) (now : Situation) (one other : Pick)
       ∙ ap (λ x. doom_after_other setting memory loads x (first.state.cores number) (first.doomed number))
       (ap (λ (x : Core). addresses_stored_by setting memory x outcome) (first_core other.core apart)))
 
-  dooms : (number : ℕ) (is_other is_one : Bool) → nat_eq number other.core ≡ is_other → nat_eq number one.core ≡ is_one →
+  dooms : (number : ℕ) (is_other is_one : Bool) → nat_eq number other.core ≡ is_other
+      → nat_eq number one.core ≡ is_one →
       (moved setting first other.core outcome made).doomed number
       ≡ (moved setting second one.core is.outcome (made.0, is.next)).doomed number
   dooms number true true a b = absurd (not_both number a b)
   dooms number true false a b =
       ap (λ t. cond t (doom_after_own outcome (first.doomed other.core))
       (doom_after_other setting memory (addresses_loaded_by setting memory (first.state.cores other.core) outcome)
-      (addresses_stored_by setting memory (first.state.cores other.core) outcome) (first.state.cores number) (first.doomed number))) a
+      (addresses_stored_by setting memory (first.state.cores other.core) outcome) (first.state.cores number)
+      (first.doomed number))) a
       ∙ (ap (doom_after_own outcome) (first_doom other.core apart)
       ∙ sym (quiet number b ∙ ap (λ t. cond t (doom_after_own outcome (now.doomed other.core))
       (doom_after_other setting memory loads stores (now.state.cores number) (now.doomed number))) a))
   dooms number false true a b =
       hits number a
-      ∙ (ap (λ t. doom_after_other setting memory loads stores (cond t is.next (now.state.cores number)) (first.doomed number)) b
-      ∙ (ap (λ t. doom_after_other setting memory loads stores is.next (cond t (doom_after_own is.outcome (now.doomed one.core))
+      ∙ (ap (λ t. doom_after_other setting memory loads stores (cond t is.next (now.state.cores number))
+      (first.doomed number)) b
+      ∙ (ap (λ t. doom_after_other setting memory loads stores is.next
+      (cond t (doom_after_own is.outcome (now.doomed one.core))
       (doom_after_other setting memory (addresses_loaded_by setting memory (now.state.cores one.core) is.outcome)
-      (addresses_stored_by setting memory (now.state.cores one.core) is.outcome) (now.state.cores number) (now.doomed number)))) b
+      (addresses_stored_by setting memory (now.state.cores one.core) is.outcome) (now.state.cores number)
+      (now.doomed number)))) b
       ∙ (is.after memory loads stores
       ∙ sym (ap (λ t. cond t (doom_after_own is.outcome (second.doomed one.core))
       (doom_after_other setting made.0 (addresses_loaded_by setting made.0 (second.state.cores one.core) is.outcome)
-      (addresses_stored_by setting made.0 (second.state.cores one.core) is.outcome) (second.state.cores number) (second.doomed number))) b
+      (addresses_stored_by setting made.0 (second.state.cores one.core) is.outcome) (second.state.cores number)
+      (second.doomed number))) b
       ∙ ap (doom_after_own is.outcome) second_doom))))
   dooms number false false a b =
       hits number a
       ∙ (ap (λ (x : Core). doom_after_other setting memory loads stores x (first.doomed number)) (first_core number b)
-      ∙ (ap (λ (d : Option ℕ). doom_after_other setting memory loads stores (now.state.cores number) d) (first_doom number b)
+      ∙ (ap (λ (d : Option ℕ). doom_after_other setting memory loads stores (now.state.cores number) d)
+      (first_doom number b)
       ∙ sym (quiet number b ∙ ap (λ t. cond t (doom_after_own outcome (now.doomed other.core))
       (doom_after_other setting memory loads stores (now.state.cores number) (now.doomed number))) a)))
 
@@ -218,12 +243,14 @@ module _ (setting : Setting) (now : Situation) (one other : Pick)
     other_last = other_last;
     one_last = one_last ∙ ap Some (sym (same_situation (moved setting first other.core outcome made)
         (moved setting second one.core is.outcome (made.0, is.next)) refl refl
-        (λ number. swap (nat_eq number other.core) (nat_eq number one.core) made.1 is.next (now.state.cores number) (not_both number))
+        (λ number. swap (nat_eq number other.core) (nat_eq number one.core) made.1 is.next (now.state.cores number)
+        (not_both number))
         (λ number. dooms number (nat_eq number other.core) (nat_eq number one.core) refl refl)));
     still = still;
   }
 
-pub unseen_first : (setting : Setting) (now after_one after_other : Situation) (one other : Pick) → IsUnseen setting now one.core →
+pub unseen_first : (setting : Setting) (now after_one after_other : Situation) (one other : Pick)
+    → IsUnseen setting now one.core →
     nat_eq other.core one.core ≡ false → nat_eq one.core other.core ≡ false →
     after_pick setting now one ≡ Some after_one → after_pick setting now other ≡ Some after_other →
     Crosses setting one other after_one after_other
@@ -231,13 +258,16 @@ unseen_first setting now after_one after_other one other unseen apart apart_too 
     let is = unseen_at setting now one.core unseen in
     let step_one = picked setting now after_one one goes in
     let step_other = picked setting now after_other other goes_other in
-    let first_is : rested setting now one.core is ≡ after_one = same_in (sym (unseen_goes setting now one is step_one.below) ∙ goes) in
+    let first_is : rested setting now one.core is ≡ after_one =
+    same_in (sym (unseen_goes setting now one is step_one.below) ∙ goes) in
     subst (λ (x : Situation). Crosses setting one other x after_other) first_is
     (subst (λ (x : Situation). Crosses setting one other (rested setting now one.core is) x) (sym step_other.is_next)
-    (crosses setting now one other is step_one.below step_other.below step_other.made step_other.is_made apart apart_too))
+    (crosses setting now one other is step_one.below step_other.below step_other.made step_other.is_made
+    apart apart_too))
 
 -- an unseen step is the same whatever its event
-pub same_under_any : (setting : Setting) (now next : Situation) (one other : Pick) → IsUnseen setting now one.core → one.core ≡ other.core →
+pub same_under_any : (setting : Setting) (now next : Situation) (one other : Pick) → IsUnseen setting now one.core
+    → one.core ≡ other.core →
     after_pick setting now one ≡ Some next → after_pick setting now other ≡ Some next
 same_under_any setting now next one other unseen same goes =
     let is = unseen_at setting now one.core unseen in

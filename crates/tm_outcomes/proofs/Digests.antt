@@ -1,11 +1,13 @@
 -- States that are the same have the same digest, and lines that are noted later change none.
-use Rattle.std.proofs.Common.{◌≡◌, inl, inr, ℕ, zero, suc, ◌+◌, ◌*◌, ◌/◌, ◌<◌, ◌≤◌, Bool, true, false, cond, List, [], ◌∷◌, ◌++◌, length, append_assoc, refl, sym, ap, ◌∙◌, subst, arith}
+use Rattle.std.proofs.Common.{◌≡◌, inl, inr, ℕ, zero, suc, ◌+◌, ◌*◌, ◌/◌, ◌<◌, ◌≤◌, Bool, true, false, cond, List, []}
+use Rattle.std.proofs.Common.{◌∷◌, ◌++◌, length, append_assoc, refl, sym, ap, ◌∙◌, subst, arith}
 use Rattle.std.specs.Prelude.{Contains, nat_eq, nat_lt, slice_index}
 use Rattle.std.specs.Int.{w64, from_le_bytes}
 use Rattle.std.specs.List.{fold}
 use Rattle.std.proofs.lemmas.Bool.{eq-eqb}
 use Rattle.std.proofs.lemmas.List.{append-nil, ext_get_or}
-use Rattle.std.proofs.lemmas.List.Elements.{Contains-append_cases, Contains-append_left, Contains-append_right, Contains-push, Contains-push_cases}
+use Rattle.std.proofs.lemmas.List.Elements.{Contains-append_cases, Contains-append_left, Contains-append_right}
+use Rattle.std.proofs.lemmas.List.Elements.{Contains-push, Contains-push_cases}
 use Rattle.std.proofs.lemmas.List.Sums.{fold-append}
 use Rattle.tm_core.specs.Reopening.{IsSameElsewhere}
 use Rattle.tm_core.specs.Theorem.{no_regs}
@@ -40,7 +42,8 @@ word_same memory other at same = λ i.
     ∷ same (at + 6) (omega arith) (omega arith) i ∷ same (at + 7) (omega arith) (omega arith) i ∷ [])
 
 words_same : (memory other : List ℕ) (digest start count : ℕ) →
-    ((address : ℕ) → start ≤ address → address < start + count * 8 → slice_index memory address ≡ slice_index other address) →
+    ((address : ℕ) → start ≤ address → address < start + count * 8
+    → slice_index memory address ≡ slice_index other address) →
     mixed_words memory other digest start count ≡ digest
 words_same memory other digest start zero same = refl
 words_same memory other digest start (suc count) same =
@@ -94,7 +97,8 @@ noted_later before after place same has elsewhere =
       | inl old ↦ absurd (has.fresh (address / 64) among old)
       | inr is ↦ is
     ]) in
-    ap (λ (o : List ℕ). mixed_cores (mixed_lines memory o 0 after.lines.items) place.machine.views) (ap (λ v. v.items) same)
+    ap (λ (o : List ℕ). mixed_cores (mixed_lines memory o 0 after.lines.items) place.machine.views)
+    (ap (λ v. v.items) same)
     ∙ (ap (λ (ls : List ℕ). mixed_cores (mixed_lines memory opening 0 ls) place.machine.views) has.grown
     ∙ ap (λ d. mixed_cores d place.machine.views) (fold-append (mixed_line memory opening) 0 lines has.more ∙ later))
 

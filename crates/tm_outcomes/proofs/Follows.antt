@@ -19,7 +19,8 @@ use Rattle.tm_outcomes.proofs.Leads.{leads_stands, stands_leads}
 use Rattle.tm_outcomes.proofs.Trees.{schedule_old}
 
 -- the place after a step stands for what a node leads to
-pub follows : (trial : Trial) (schedules : List (List Pick)) (index : ℕ) (pick : Pick) (steps : List Pick) (before after other : Place)
+pub follows : (trial : Trial) (schedules : List (List Pick)) (index : ℕ) (pick : Pick) (steps : List Pick)
+    (before after other : Place)
     (to : ℕ) → IsAt trial before (schedule_at schedules index) → Advances trial before after pick steps →
     to < length schedules → IsAt trial other (schedule_at schedules to) →
     ((now : Situation) → StandsFor after.machine now.state now.doomed → StandsFor other.machine now.state now.doomed) →
@@ -38,20 +39,24 @@ follows trial schedules index pick steps before after other to at advances withi
 -- ---- in a tree that has grown
 
 module _ (trial : Trial) (schedules more : List (List Pick)) where
-  to_grown : (index : ℕ) (now : Situation) → LeadsTo trial schedules index now → LeadsTo trial (schedules ++ more) index now
+  to_grown : (index : ℕ) (now : Situation) → LeadsTo trial schedules index now
+      → LeadsTo trial (schedules ++ more) index now
   to_grown index now leads = record {
     within = (let h = leads.within in let e = length-append schedules more in omega arith);
     end = leads.end;
-    is_run = subst (λ (s : List Pick). after_schedule (trial_setting trial) (trial_opening trial) s ≡ Some leads.end) (sym (schedule_old schedules more index leads.within)) leads.is_run;
+    is_run = subst (λ (s : List Pick). after_schedule (trial_setting trial) (trial_opening trial) s ≡ Some leads.end)
+        (sym (schedule_old schedules more index leads.within)) leads.is_run;
     same = leads.same;
     count = leads.count;
   }
 
-  from_grown : (index : ℕ) (now : Situation) → index < length schedules → LeadsTo trial (schedules ++ more) index now → LeadsTo trial schedules index now
+  from_grown : (index : ℕ) (now : Situation) → index < length schedules → LeadsTo trial (schedules ++ more) index now
+      → LeadsTo trial schedules index now
   from_grown index now within leads = record {
     within = within;
     end = leads.end;
-    is_run = subst (λ (s : List Pick). after_schedule (trial_setting trial) (trial_opening trial) s ≡ Some leads.end) (schedule_old schedules more index within) leads.is_run;
+    is_run = subst (λ (s : List Pick). after_schedule (trial_setting trial) (trial_opening trial) s ≡ Some leads.end)
+        (schedule_old schedules more index within) leads.is_run;
     same = leads.same;
     count = leads.count;
   }
@@ -95,8 +100,10 @@ module _ (trial : Trial) (schedules more : List (List Pick)) where
     along = along_grown link.from step.pick link.to step.within.from step.along;
   }
 
-  pub steps_grown : (links : List Link) → All (IsStep trial schedules) links → All (IsStep trial (schedules ++ more)) links
-  steps_grown links steps = All-weaker (IsStep trial schedules) (IsStep trial (schedules ++ more)) (λ (link : Link) is. step_grown link is) links steps
+  pub steps_grown : (links : List Link) → All (IsStep trial schedules) links
+      → All (IsStep trial (schedules ++ more)) links
+  steps_grown links steps = All-weaker (IsStep trial schedules) (IsStep trial (schedules ++ more))
+      (λ (link : Link) is. step_grown link is) links steps
 
   end_grown : (index : ℕ) → IsEnd trial schedules index → IsEnd trial (schedules ++ more) index
   end_grown index end = record {
@@ -105,9 +112,11 @@ module _ (trial : Trial) (schedules more : List (List Pick)) where
   }
 
   pub ends_grown : (ends : List ℕ) → All (IsEnd trial schedules) ends → All (IsEnd trial (schedules ++ more)) ends
-  ends_grown ends all = All-weaker (IsEnd trial schedules) (IsEnd trial (schedules ++ more)) (λ (index : ℕ) is. end_grown index is) ends all
+  ends_grown ends all = All-weaker (IsEnd trial schedules) (IsEnd trial (schedules ++ more))
+      (λ (index : ℕ) is. end_grown index is) ends all
 
-  pub shown_grown : (found : Findings) (index : ℕ) → index < length schedules → IsShown trial schedules found index → IsShown trial (schedules ++ more) found index
+  pub shown_grown : (found : Findings) (index : ℕ) → index < length schedules → IsShown trial schedules found index
+      → IsShown trial (schedules ++ more) found index
   shown_grown found index within shown = record {
     outcome = λ now leads. shown.outcome now (from_grown index now within leads);
     end = λ now leads. shown.end now (from_grown index now within leads);
@@ -118,13 +127,15 @@ module _ (trial : Trial) (schedules more : List (List Pick)) where
   pub explored_grown : (links : List Link) (found : Findings) (done : ℕ) → done ≤ length schedules →
       IsExplored trial schedules links found done → IsExplored trial (schedules ++ more) links found done
   explored_grown links found done few explored = record {
-    followed = λ index below pick is_pick. followed_grown links index pick (omega arith) (explored.followed index below pick is_pick);
+    followed = λ index below pick is_pick. followed_grown links index pick (omega arith)
+        (explored.followed index below pick is_pick);
     shown = λ index below. shown_grown found index (omega arith) (explored.shown index below);
   }
 
 -- ---- with more links
 
-pub followed_more : (trial : Trial) (schedules : List (List Pick)) (before after : List Link) (index : ℕ) (pick : Pick) →
+pub followed_more : (trial : Trial) (schedules : List (List Pick)) (before after : List Link)
+    (index : ℕ) (pick : Pick) →
     ((from to : ℕ) → IsLink before from to → IsLink after from to) → IsFollowed trial schedules before index pick →
     IsFollowed trial schedules after index pick
 followed_more trial schedules before after index pick kept followed = record {
@@ -133,10 +144,12 @@ followed_more trial schedules before after index pick kept followed = record {
   along = followed.along;
 }
 
-pub explored_more : (trial : Trial) (schedules : List (List Pick)) (before after : List Link) (found : Findings) (done : ℕ) →
+pub explored_more : (trial : Trial) (schedules : List (List Pick)) (before after : List Link)
+    (found : Findings) (done : ℕ) →
     ((from to : ℕ) → IsLink before from to → IsLink after from to) → IsExplored trial schedules before found done →
     IsExplored trial schedules after found done
 explored_more trial schedules before after found done kept explored = record {
-  followed = λ index below pick is_pick. followed_more trial schedules before after index pick kept (explored.followed index below pick is_pick);
+  followed = λ index below pick is_pick. followed_more trial schedules before after index pick kept
+      (explored.followed index below pick is_pick);
   shown = explored.shown;
 }

@@ -1,5 +1,6 @@
 -- A node whose core's steps are followed under several events, one after another.
-use Rattle.std.proofs.Common.{◌≡◌, ◌⊎◌, inl, inr, ℕ, ◌+◌, ◌<◌, ◌≤◌, List, [], ◌∷◌, ◌++◌, Option, Some, None, Result, length, get_or}
+use Rattle.std.proofs.Common.{◌≡◌, ◌⊎◌, inl, inr, ℕ, ◌+◌, ◌<◌, ◌≤◌, List, [], ◌∷◌, ◌++◌, Option, Some, None, Result}
+use Rattle.std.proofs.Common.{length, get_or}
 use Rattle.std.proofs.Common.{take, append_assoc, refl, sym, ap, ◌∙◌, subst, arith, length-append}
 use Rattle.std.proofs.lemmas.List.{append-nil, take_more}
 use Rattle.std.proofs.lemmas.List.Elements.{Contains-push_cases}
@@ -25,7 +26,8 @@ pub under_this : (trial : Trial) (schedules : List (List Pick)) (links : List Li
     IsFollowed trial schedules links index pick → (event : Option Event) → IsThis pick.event event →
     IsFollowed trial schedules links index (record { core = pick.core; event = event })
 under_this trial schedules links index pick followed event is =
-    subst (λ (e : Option Event). IsFollowed trial schedules links index (record { core = pick.core; event = e })) (sym is)
+    subst (λ (e : Option Event). IsFollowed trial schedules links index (record { core = pick.core; event = e }))
+    (sym is)
     followed
 
 -- none of no events
@@ -76,7 +78,8 @@ module _ (trial : Trial) (most index core : ℕ) where
       ap (λ (g : List (List Pick)). schedule_at g index) step.has_grown.grown
       ∙ schedule_old tree.0 step.has_grown.more index (omega arith) in
       let same : schedule_at step.grown index ≡ schedule_at schedules index =
-      one_schedule trial after.nodes.items step.grown schedules step.has_grown.tree now (length after.nodes.items) index here here in
+      one_schedule trial after.nodes.items step.grown schedules step.has_grown.tree now (length after.nodes.items)
+      index here here in
       subst P (sym was ∙ same) (holds tree.0 tree.1)
 
   -- under no event so far
@@ -139,7 +142,8 @@ module _ (trial : Trial) (most index core : ℕ) where
           followed = λ event is. elim is [
             | inl earlier ↦
                 let pick : Pick = record { core = core; event = event } in
-                subst (λ (g : List (List Pick)). IsFollowed trial g after.links.items index pick) (sym ended.has_grown.grown)
+                subst (λ (g : List (List Pick)). IsFollowed trial g after.links.items index pick)
+                (sym ended.has_grown.grown)
                 (followed_grown trial begun.grown more after.links.items index pick here
                 (followed_more trial begun.grown middle.links.items after.links.items index pick other.kept
                 (begun.followed event earlier)))
@@ -177,7 +181,8 @@ module _ (trial : Trial) (most index core : ℕ) where
 
   -- where no event makes another step, what was followed under none was followed under each
   pub none_for_each : (before after : Searching) (events : List Event) → index < length before.nodes.items →
-      ((schedules : List (List Pick)) → IsTree trial before.nodes.items schedules → IsUntouched trial schedules index core) →
+      ((schedules : List (List Pick)) → IsTree trial before.nodes.items schedules
+      → IsUntouched trial schedules index core) →
       IsFollowedIn trial most before after index core (IsThis None) →
       IsFollowedIn trial most before after index core (IsNoneOrOneOf events)
   none_for_each before after events within untouched alone = record {

@@ -1,5 +1,6 @@
 -- A core that has stopped stays where it is, under each event.
-use Rattle.std.proofs.Common.{◌≡◌, ℕ, ◌<◌, Bool, true, false, cond, List, [], Option, Some, None, length, refl, sym, ap, ◌∙◌, arith}
+use Rattle.std.proofs.Common.{◌≡◌, ℕ, ◌<◌, Bool, true, false, cond, List, [], Option, Some, None, length, refl, sym, ap}
+use Rattle.std.proofs.Common.{◌∙◌, arith}
 use Rattle.std.specs.Prelude.{nat_eq, nat_lt}
 use Rattle.std.proofs.lemmas.Bool.{eqb-true, lt-ltb}
 use Rattle.ia_regs.specs.declared.Regs.{Regs}
@@ -30,12 +31,14 @@ owed_idle : (by : Option Event) (setting : Setting) (memory : List ℕ) (regs : 
 owed_idle None setting memory regs stop doom = refl
 owed_idle (Some (event.Abort by)) setting memory regs stop doom = refl
 
-module _ (setting : Setting) (now : Situation) (core : ℕ) (regs : Regs) (stop : Stop) (halted : now.state.cores core ≡ Halted regs stop) where
+module _ (setting : Setting) (now : Situation) (core : ℕ) (regs : Regs) (stop : Stop)
+    (halted : now.state.cores core ≡ Halted regs stop) where
   abbrev memory : List ℕ
   memory = now.state.memory
 
   -- its own core is written as it was
-  core_stays : (number : ℕ) (own : Bool) → nat_eq number core ≡ own → cond own (Halted regs stop) (now.state.cores number) ≡ now.state.cores number
+  core_stays : (number : ℕ) (own : Bool) → nat_eq number core ≡ own
+      → cond own (Halted regs stop) (now.state.cores number) ≡ now.state.cores number
   core_stays number true is = sym halted ∙ ap now.state.cores (sym (eqb-true number core is))
   core_stays number false is = refl
 
@@ -54,7 +57,8 @@ module _ (setting : Setting) (now : Situation) (core : ℕ) (regs : Regs) (stop 
   stays = same_situation (moved setting now core Idle (memory, Halted regs stop)) now refl refl
       (λ number. core_stays number (nat_eq number core) refl) (λ number. doom_stays number (nat_eq number core) refl)
 
-  idles : (by : Option Event) → nat_lt core now.state.count ≡ true → after_pick setting now (record { core = core; event = by }) ≡ Some now
+  idles : (by : Option Event) → nat_lt core now.state.count ≡ true
+      → after_pick setting now (record { core = core; event = by }) ≡ Some now
   idles by below =
       picks setting now (record { core = core; event = by }) Idle (memory, Halted regs stop) below
       (ap (λ (x : Core). owed_under by setting memory x (now.doomed core)) halted
@@ -69,7 +73,8 @@ pub leads_back : (trial : Trial) (schedules : List (List Pick)) (index : ℕ) (p
 leads_back trial schedules index place pick is_core at stopped = λ now leads.
     let setting : Setting = trial_setting trial in
     let stands = leads_stands trial schedules index place now at leads in
-    let halted = halted_is setting now.state.memory (now.state.cores pick.core) (now.doomed pick.core) (view_at place.machine pick.core)
+    let halted = halted_is setting now.state.memory (now.state.cores pick.core) (now.doomed pick.core)
+    (view_at place.machine pick.core)
     (shows place.machine setting now at.rules stands pick.core (let count = at.count in omega arith)) stopped in
     record {
       next = now;

@@ -1,5 +1,6 @@
 -- The nodes of a search are pairwise different.
-use Rattle.std.proofs.Common.{◌≡◌, ◌≢◌, inl, inr, ℕ, ◌+◌, ◌<◌, ◌≤◌, Bool, true, false, cond, List, [], ◌∷◌, ◌++◌, Option, Some, None, length, refl, sym, ap, ◌∙◌, subst, arith, length-append}
+use Rattle.std.proofs.Common.{◌≡◌, ◌≢◌, inl, inr, ℕ, ◌+◌, ◌<◌, ◌≤◌, Bool, true, false, cond, List, [], ◌∷◌, ◌++◌}
+use Rattle.std.proofs.Common.{Option, Some, None, length, refl, sym, ap, ◌∙◌, subst, arith, length-append}
 use Rattle.std.specs.Prelude.{All, nat_eq}
 use Rattle.std.specs.HashMap.{Updates, get}
 use Rattle.std.specs.Map.{lookup}
@@ -7,7 +8,8 @@ use Rattle.std.proofs.lemmas.Bool.{cases_lt, eq-eqb, eqb-true, false≢true}
 use Rattle.std.proofs.lemmas.List.Elements.{All-weaker}
 use Rattle.tm_model.specs.declared.outcome.Pick.{Pick}
 use Rattle.tm_outcomes.specs.Digests.{digest_by}
-use Rattle.tm_outcomes.specs.Kept.{AreApart, AreKept, AreNewest, AreOlder, HasDigest, IsNewest, IsOther, digest_at, older_at}
+use Rattle.tm_outcomes.specs.Kept.{AreApart, AreKept, AreNewest, AreOlder, HasDigest, IsNewest, IsOther, digest_at}
+use Rattle.tm_outcomes.specs.Kept.{older_at}
 use Rattle.tm_outcomes.specs.Nodes.{HasRun, IsPickOf, IsTree, schedule_at}
 use Rattle.tm_outcomes.specs.Outcomes.{IsAllowed, trial_setting}
 use Rattle.tm_outcomes.specs.Places.{AreAlike, IsAt}
@@ -59,7 +61,8 @@ same_alike trial a b s t here there same = record {
 }
 
 -- machines at the end of one schedule
-pub at_alike : (trial : Trial) (a b : Place) (schedule : List Pick) → IsAt trial a schedule → IsAt trial b schedule → AreAlike a b
+pub at_alike : (trial : Trial) (a b : Place) (schedule : List Pick) → IsAt trial a schedule
+    → IsAt trial b schedule → AreAlike a b
 at_alike trial a b schedule here there =
     let now : here.now ≡ there.now = same_in (sym here.is_run ∙ there.is_run) in
     same_alike trial a b schedule schedule here there
@@ -68,23 +71,27 @@ at_alike trial a b schedule here there =
 
 -- ---- nodes that are others
 
-pub other_by : (trial : Trial) (nodes : List Node) (place there : Place) (index : ℕ) → IsAtNode trial nodes there (Some index) →
+pub other_by : (trial : Trial) (nodes : List Node) (place there : Place) (index : ℕ)
+    → IsAtNode trial nodes there (Some index) →
     ¬ AreAlike place there → IsOther trial nodes place index
 other_by trial nodes place there index at apart = λ schedules tree other is alike.
     apart (alike_then place other there alike
     (at_alike trial other there (schedule_at schedules index) is (at.1 schedules tree)))
 
 pub other_digest : (trial : Trial) (nodes : List Node) (written : Written) (place : Place) (index : ℕ) →
-    HasDigest trial nodes written index → digest_at nodes index ≢ digest_by written place → IsOther trial nodes place index
+    HasDigest trial nodes written index → digest_at nodes index ≢ digest_by written place
+    → IsOther trial nodes place index
 other_digest trial nodes written place index has differs = λ schedules tree other is alike.
     differs (has.digest
-    ∙ (same_digest written has.place other (at_alike trial has.place other (schedule_at schedules index) (has.at.1 schedules tree) is)
+    ∙ (same_digest written has.place other
+    (at_alike trial has.place other (schedule_at schedules index) (has.at.1 schedules tree) is)
     ∙ sym (same_digest written place other alike)))
 
 -- ---- the nodes that a digest leads to, from the last one on
 
 -- those from an end on are others
-pub record IsLooking (trial : Trial) (nodes : List Node) (written : Written) (place : Place) (next : Option ℕ) : Type 0 where
+pub record IsLooking (trial : Trial) (nodes : List Node) (written : Written) (place : Place)
+    (next : Option ℕ) : Type 0 where
   pub end : ℕ
   pub within : end ≤ length nodes
   pub last : IsNewest nodes (digest_by written place) end next
@@ -101,7 +108,8 @@ looks trial nodes written place next is = record {
 
 pub index_within : (trial : Trial) (nodes : List Node) (written : Written) (place : Place) (index : ℕ) →
     IsLooking trial nodes written place (Some index) → index < length nodes
-index_within trial nodes written place index so_far = (let within = so_far.within in let below = so_far.last.0 in omega arith)
+index_within trial nodes written place index so_far =
+    (let within = so_far.within in let below = so_far.last.0 in omega arith)
 
 pub looks_on : (trial : Trial) (nodes : List Node) (written : Written) (place : Place) (index : ℕ) (next : Option ℕ) →
     AreApart trial nodes written → IsOther trial nodes place index → next ≡ older_at nodes index →
@@ -116,7 +124,8 @@ looks_on trial nodes written place index next apart here older so_far =
       done = λ other above within. elim (cases_lt other so_far.end) [
         | inl less ↦ elim (cases_lt index other) [
           | inl between ↦
-              other_digest trial nodes written place other (apart.digests other within) (so_far.last.2 other between less)
+              other_digest trial nodes written place other (apart.digests other within)
+              (so_far.last.2 other between less)
           | inr same ↦
               let is : index ≡ other = omega arith in
               subst (λ n. IsOther trial nodes place n) is here
@@ -125,7 +134,8 @@ looks_on trial nodes written place index next apart here older so_far =
       ];
     }
 
-pub all_others : (trial : Trial) (nodes : List Node) (written : Written) (place : Place) → AreApart trial nodes written →
+pub all_others : (trial : Trial) (nodes : List Node) (written : Written) (place : Place)
+    → AreApart trial nodes written →
     IsLooking trial nodes written place None → (index : ℕ) → index < length nodes → IsOther trial nodes place index
 all_others trial nodes written place apart whole index within = elim (cases_lt index whole.end) [
   | inl less ↦ other_digest trial nodes written place index (apart.digests index within) (whole.last index less)
@@ -137,13 +147,15 @@ abbrev pub left_of : Option ℕ → ℕ
 left_of None = 0
 left_of (Some index) = index + 1
 
-pub fewer_left : (nodes : List Node) (digest index : ℕ) (next : Option ℕ) → IsNewest nodes digest index next → left_of next < index + 1
+pub fewer_left : (nodes : List Node) (digest index : ℕ) (next : Option ℕ) → IsNewest nodes digest index next
+    → left_of next < index + 1
 fewer_left nodes digest index None is = omega arith
 fewer_left nodes digest index (Some other) is = (let below = is.0 in omega arith)
 
 -- ---- where nothing changes
 
-pub newest_same : (before after : Searching) → after.nodes ≡ before.nodes → after.newest ≡ before.newest → AreNewest before → AreNewest after
+pub newest_same : (before after : Searching) → after.nodes ≡ before.nodes → after.newest ≡ before.newest
+    → AreNewest before → AreNewest after
 newest_same before after nodes newest was = λ digest.
     subst (λ m. IsNewest after.nodes.items digest (length after.nodes.items) (get nat_eq m digest)) (sym newest)
     (subst (λ v. IsNewest v.items digest (length v.items) (get nat_eq before.newest digest)) (sym nodes) (was digest))
@@ -166,7 +178,8 @@ apart_noted trial nodes before after same more written apart = record {
       let has = apart.digests index below in
       let schedule : List Pick = schedule_at written.schedules index in
       let at : IsAt trial has.place schedule = has.at.1 written.schedules written.tree in
-      let elsewhere = place_at trial before has.place schedule written.opening (record { rules = at.rules; count = at.count }) at
+      let elsewhere =
+      place_at trial before has.place schedule written.opening (record { rules = at.rules; count = at.count }) at
       (written.within index below) in
       record {
         place = has.place;
@@ -187,7 +200,8 @@ newest_grown nodes node digest end (Some index) within is =
     let below = is.0 in (
       below,
       part_old (λ (n : Node). n.digest) 0 nodes node index (omega arith) ∙ is.1,
-      λ other above less same. is.2 other above less (sym (part_old (λ (n : Node). n.digest) 0 nodes node other (omega arith)) ∙ same),
+      λ other above less same. is.2 other above less
+          (sym (part_old (λ (n : Node). n.digest) 0 nodes node other (omega arith)) ∙ same),
     )
 
 newest_other : (nodes : List Node) (digest end : ℕ) (found : Option ℕ) → digest_at nodes end ≢ digest →
@@ -209,10 +223,12 @@ newest_other nodes digest end (Some index) elsewhere is = (
   ],
 )
 
-newest_here : (nodes : List Node) (digest end : ℕ) → digest_at nodes end ≡ digest → IsNewest nodes digest (end + 1) (Some end)
+newest_here : (nodes : List Node) (digest end : ℕ) → digest_at nodes end ≡ digest
+    → IsNewest nodes digest (end + 1) (Some end)
 newest_here nodes digest end here = (omega arith, here, λ other above below. absurd (omega arith))
 
-newest_by : (nodes : List Node) (node : Node) (digest : ℕ) (found now : Option ℕ) (is : Bool) → nat_eq node.digest digest ≡ is →
+newest_by : (nodes : List Node) (node : Node) (digest : ℕ) (found now : Option ℕ) (is : Bool)
+    → nat_eq node.digest digest ≡ is →
     now ≡ cond is (Some (length nodes)) found → IsNewest nodes digest (length nodes) found →
     IsNewest (nodes ++ node ∷ []) digest (length nodes + 1) now
 newest_by nodes node digest found now true is same was =
@@ -227,17 +243,20 @@ newest_by nodes node digest found now false is same was =
     (newest_grown nodes node digest (length nodes) found (omega arith) was))
 
 pub newest_added : (before after : Searching) (node : Node) → after.nodes.items ≡ before.nodes.items ++ node ∷ [] →
-    Updates nat_eq before.newest after.newest node.digest (Some (length before.nodes.items)) → AreNewest before → AreNewest after
+    Updates nat_eq before.newest after.newest node.digest (Some (length before.nodes.items)) → AreNewest before
+    → AreNewest after
 newest_added before after node added updates was = λ digest.
     let nodes : List Node = before.nodes.items in
     let long : length (nodes ++ node ∷ []) ≡ length nodes + 1 = length-append nodes (node ∷ []) in
     subst (λ (ns : List Node). IsNewest ns digest (length ns) (get nat_eq after.newest digest)) (sym added)
     (subst (λ n. IsNewest (nodes ++ node ∷ []) digest n (get nat_eq after.newest digest)) (sym long)
-    (newest_by nodes node digest (get nat_eq before.newest digest) (get nat_eq after.newest digest) (nat_eq node.digest digest) refl
+    (newest_by nodes node digest (get nat_eq before.newest digest) (get nat_eq after.newest digest)
+    (nat_eq node.digest digest) refl
     (updates.0 digest) (was digest)))
 
 -- what is new is a machine at the end of the node's schedule, and no node before is the same
-module _ (trial : Trial) (nodes after : List Node) (node : Node) (written : Written) (schedules : List (List Pick)) (here : Place)
+module _ (trial : Trial) (nodes after : List Node) (node : Node) (written : Written)
+    (schedules : List (List Pick)) (here : Place)
     (tree : IsTree trial nodes schedules) (added : after ≡ nodes ++ node ∷ []) (parent : node.parent < length nodes)
     (are_picks : All (IsPickOf trial) node.steps.items)
     (has_run : HasRun trial (schedule_at schedules node.parent ++ node.steps.items))
@@ -249,7 +268,8 @@ module _ (trial : Trial) (nodes after : List Node) (node : Node) (written : Writ
   grown = schedules ++ last ∷ []
 
   tree_now : IsTree trial after grown
-  tree_now = subst (λ (ns : List Node). IsTree trial ns grown) (sym added) (grows trial nodes schedules node tree parent are_picks has_run)
+  tree_now = subst (λ (ns : List Node). IsTree trial ns grown) (sym added)
+      (grows trial nodes schedules node tree parent are_picks has_run)
 
   long : length after ≡ length nodes + 1
   long = ap (λ (ns : List Node). length ns) added ∙ length-append nodes (node ∷ [])
@@ -275,28 +295,33 @@ module _ (trial : Trial) (nodes after : List Node) (node : Node) (written : Writ
       ap (λ (ns : List Node). digest_at ns index) added ∙ part_old (λ (n : Node). n.digest) 0 nodes node index below
 
   digest_new : (index : ℕ) → index ≡ length nodes → digest_at after index ≡ node.digest
-  digest_new index e = ap (λ (ns : List Node). digest_at ns index) added ∙ part_new (λ (n : Node). n.digest) 0 nodes node index e
+  digest_new index e =
+      ap (λ (ns : List Node). digest_at ns index) added ∙ part_new (λ (n : Node). n.digest) 0 nodes node index e
 
   older_old : (index : ℕ) → index < length nodes → older_at after index ≡ older_at nodes index
   older_old index below =
       ap (λ (ns : List Node). older_at ns index) added ∙ part_old (λ (n : Node). n.older) None nodes node index below
 
   older_new : (index : ℕ) → index ≡ length nodes → older_at after index ≡ node.older
-  older_new index e = ap (λ (ns : List Node). older_at ns index) added ∙ part_new (λ (n : Node). n.older) None nodes node index e
+  older_new index e =
+      ap (λ (ns : List Node). older_at ns index) added ∙ part_new (λ (n : Node). n.older) None nodes node index e
 
   newest_now : (digest end : ℕ) (found : Option ℕ) → end ≤ length nodes → IsNewest nodes digest end found →
       IsNewest after digest end found
   newest_now digest end found within is =
-      subst (λ (ns : List Node). IsNewest ns digest end found) (sym added) (newest_grown nodes node digest end found within is)
+      subst (λ (ns : List Node). IsNewest ns digest end found) (sym added)
+      (newest_grown nodes node digest end found within is)
 
-  digests_grown : node.digest ≡ digest_by written here → AreApart trial nodes written → (index : ℕ) → index < length after →
+  digests_grown : node.digest ≡ digest_by written here → AreApart trial nodes written
+      → (index : ℕ) → index < length after →
       HasDigest trial after written index
   digests_grown digest apart index below = elim (cases_lt index (length nodes)) [
     | inl earlier ↦
         let has = apart.digests index earlier in
         record {
           place = has.place;
-          at = at_grown trial nodes after node schedules has.place (Some index) tree added parent are_picks has_run has.at;
+          at = at_grown trial nodes after node schedules has.place (Some index) tree added parent
+              are_picks has_run has.at;
           digest = digest_old index earlier ∙ has.digest;
         }
     | inr later ↦
@@ -304,7 +329,10 @@ module _ (trial : Trial) (nodes after : List Node) (node : Node) (written : Writ
         let is_last : index ≡ length nodes = omega arith in
         record {
           place = here;
-          at = (below, λ others is. subst (λ (s : List Pick). IsAt trial here s) (sym (new_is others is index is_last)) at_here);
+          at = (
+            below,
+            λ others is. subst (λ (s : List Pick). IsAt trial here s) (sym (new_is others is index is_last)) at_here,
+          );
           digest = digest_new index is_last ∙ digest;
         }
   ]
@@ -338,7 +366,8 @@ module _ (trial : Trial) (nodes after : List Node) (node : Node) (written : Writ
         elim (cases_lt second (length nodes)) [
           | inl earlier ↦
               apart.apart first second below earlier schedules tree place
-              (subst (λ (s : List Pick). IsAt trial place s) (old_is one tree_one second earlier) at) schedules tree other there alike
+              (subst (λ (s : List Pick). IsAt trial place s) (old_is one tree_one second earlier) at) schedules tree
+              other there alike
           | inr later ↦
               let same : AreAlike here place = at_alike trial here place last at_here
               (subst (λ (s : List Pick). IsAt trial place s) (new_is one tree_one second (omega arith)) at) in
@@ -361,7 +390,8 @@ older_first node none = λ index below.
     subst (λ n. IsNewest nodes (digest_at nodes n) n (older_at nodes n)) first
     (subst (λ (o : Option ℕ). IsNewest nodes node.digest 0 o) (sym none) (λ other under. absurd (omega arith)))
 
-pub apart_first : (trial : Trial) (nodes : List Node) (written : Written) (schedules : List (List Pick)) (here : Place) →
+pub apart_first : (trial : Trial) (nodes : List Node) (written : Written) (schedules : List (List Pick))
+    (here : Place) →
     IsTree trial nodes schedules → length nodes ≡ 1 → IsAt trial here [] → digest_at nodes 0 ≡ digest_by written here →
     AreOlder nodes → AreApart trial nodes written
 apart_first trial nodes written schedules here tree one at digest older = record {
@@ -396,7 +426,8 @@ are_different trial nodes written schedules tree apart = λ first second below w
     apart.apart first second below (omega arith) schedules tree b.place at_b schedules tree a.place at_a
     (alike_back a.place b.place
     (same_alike trial a.place b.place (schedule_at schedules first) (schedule_at schedules second) at_a at_b
-    (subst (λ (x : Situation). AreSame trial x at_b.now) one_is (subst (λ (x : Situation). AreSame trial one x) other_is same))))
+    (subst (λ (x : Situation). AreSame trial x at_b.now) one_is
+    (subst (λ (x : Situation). AreSame trial one x) other_is same))))
 
 pub has_found : (trial : Trial) (nodes : List Node) (written : Written) (schedules : List (List Pick)) (told : Search) →
     IsTree trial nodes schedules → AreApart trial nodes written → told.states ≡ length nodes → HasFound trial told
@@ -407,7 +438,8 @@ has_found trial nodes written schedules told tree apart states = record {
       let run = tree.runs index (omega arith) in (
         run.0,
         record {
-          allowed = All-weaker (IsPickOf trial) (λ (pick : Pick). IsAllowed trial.events pick.event) (λ (pick : Pick) is. is.allowed)
+          allowed = All-weaker (IsPickOf trial) (λ (pick : Pick). IsAllowed trial.events pick.event)
+              (λ (pick : Pick) is. is.allowed)
               (schedule_at schedules index) (tree.picks index (omega arith));
           is_run = run.1;
         },

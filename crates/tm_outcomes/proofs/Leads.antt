@@ -18,24 +18,32 @@ use Rattle.tm_outcomes.proofs.Shown.{open_is, same_under}
 use Rattle.tm_outcomes.proofs.Somes.{same_in}
 
 -- what a machine shows, under the rules of its trial
-pub shows : (machine : ShownMachine) (setting : Setting) (now : Situation) → machine_setting machine ≡ setting → StandsFor machine now.state now.doomed →
-    (core : ℕ) → core < length machine.views → view_of setting now.state.memory (now.state.cores core) (now.doomed core) ≡ Some (view_at machine core)
+pub shows : (machine : ShownMachine) (setting : Setting) (now : Situation) → machine_setting machine ≡ setting
+    → StandsFor machine now.state now.doomed →
+    (core : ℕ) → core < length machine.views
+    → view_of setting now.state.memory (now.state.cores core) (now.doomed core) ≡ Some (view_at machine core)
 shows machine setting now rules stands core below =
-    subst (λ (s : Setting). view_of s now.state.memory (now.state.cores core) (now.doomed core) ≡ Some (view_at machine core)) rules (stands.each core below)
+    subst
+    (λ (s : Setting). view_of s now.state.memory (now.state.cores core) (now.doomed core) ≡ Some (view_at machine core))
+    rules (stands.each core below)
 
 stands_by : (machine : ShownMachine) (setting : Setting) (now : Situation) → machine_setting machine ≡ setting →
     machine.memory ≡ now.state.memory → length machine.views ≡ now.state.count →
-    ((core : ℕ) → core < length machine.views → view_of setting now.state.memory (now.state.cores core) (now.doomed core) ≡ Some (view_at machine core)) →
+    ((core : ℕ) → core < length machine.views
+    → view_of setting now.state.memory (now.state.cores core) (now.doomed core) ≡ Some (view_at machine core)) →
     StandsFor machine now.state now.doomed
 stands_by machine setting now rules memory count each = record {
   same_memory = memory;
   same_count = count;
-  each = λ core below. subst (λ (s : Setting). view_of s now.state.memory (now.state.cores core) (now.doomed core) ≡ Some (view_at machine core)) (sym rules) (each core below);
+  each = λ core below. subst (λ (s : Setting). view_of s now.state.memory (now.state.cores core) (now.doomed core)
+      ≡ Some (view_at machine core)) (sym rules) (each core below);
 }
 
 -- a machine at a node's end stands for what the node leads to
-pub stands_leads : (trial : Trial) (schedules : List (List Pick)) (index : ℕ) (place : Place) (now : Situation) → index < length schedules →
-    IsAt trial place (schedule_at schedules index) → StandsFor place.machine now.state now.doomed → LeadsTo trial schedules index now
+pub stands_leads : (trial : Trial) (schedules : List (List Pick)) (index : ℕ) (place : Place) (now : Situation)
+    → index < length schedules →
+    IsAt trial place (schedule_at schedules index) → StandsFor place.machine now.state now.doomed
+    → LeadsTo trial schedules index now
 stands_leads trial schedules index place now within at stands = record {
   within = within;
   end = at.now;
@@ -53,20 +61,24 @@ stands_leads trial schedules index place now within at stands = record {
 
 -- and for all that it leads to
 pub leads_stands : (trial : Trial) (schedules : List (List Pick)) (index : ℕ) (place : Place) (now : Situation) →
-    IsAt trial place (schedule_at schedules index) → LeadsTo trial schedules index now → StandsFor place.machine now.state now.doomed
+    IsAt trial place (schedule_at schedules index) → LeadsTo trial schedules index now
+    → StandsFor place.machine now.state now.doomed
 leads_stands trial schedules index place now at leads =
     let end : at.now ≡ leads.end = same_in (sym at.is_run ∙ leads.is_run) in
     let same : AreSame trial at.now now = subst (λ (x : Situation). AreSame trial x now) (sym end) leads.same in
-    stands_by place.machine (trial_setting trial) now at.rules (at.stands.same_memory ∙ same.memory) (at.stands.same_count ∙ same.count)
+    stands_by place.machine (trial_setting trial) now at.rules (at.stands.same_memory ∙ same.memory)
+    (at.stands.same_count ∙ same.count)
     (λ core below.
     sym (same.each core (let e = at.stands.same_count in omega arith))
     ∙ shows place.machine (trial_setting trial) at.now at.rules at.stands core below)
 
 -- places that are alike stand for the same
-pub alike_stands : (trial : Trial) (a b : Place) (s t : List Pick) (now : Situation) → IsAt trial a s → IsAt trial b t → AreAlike a b →
+pub alike_stands : (trial : Trial) (a b : Place) (s t : List Pick) (now : Situation) → IsAt trial a s → IsAt trial b t
+    → AreAlike a b →
     StandsFor a.machine now.state now.doomed → StandsFor b.machine now.state now.doomed
 alike_stands trial a b s t now at other alike stands =
-    stands_by b.machine (trial_setting trial) now other.rules (sym alike.memory ∙ stands.same_memory) (sym alike.count ∙ stands.same_count)
+    stands_by b.machine (trial_setting trial) now other.rules (sym alike.memory ∙ stands.same_memory)
+    (sym alike.count ∙ stands.same_count)
     (λ core below.
     let here : core < length a.machine.views = (let e = alike.count in omega arith) in
     shows a.machine (trial_setting trial) now at.rules stands core here ∙ ap Some (alike.each core here))
@@ -84,10 +96,12 @@ untouched_at trial schedules index place core is_core at closed = λ now leads b
     (shows place.machine setting now at.rules stands core below) closed)
 
 -- a core that an event aborts at the end of a schedule
-pub opened_at : (trial : Trial) (schedule : List Pick) (place : Place) (core : ℕ) → core < length trial.program.now.entries →
+pub opened_at : (trial : Trial) (schedule : List Pick) (place : Place) (core : ℕ)
+    → core < length trial.program.now.entries →
     IsAt trial place schedule → is_open (view_at place.machine core).mode ≡ true → IsOpenBehind trial schedule core
 opened_at trial schedule place core is_core at opened = λ now is_run.
     let below : core < length place.machine.views = (let count = at.count in omega arith) in
     subst (λ (x : Situation). IsOpen (x.state.cores core) (x.doomed core)) (same_in (sym at.is_run ∙ is_run))
-    (open_is (trial_setting trial) at.now.state.memory (at.now.state.cores core) (at.now.doomed core) (view_at place.machine core)
+    (open_is (trial_setting trial) at.now.state.memory (at.now.state.cores core) (at.now.doomed core)
+    (view_at place.machine core)
     (shows place.machine (trial_setting trial) at.now at.rules at.stands core below) opened)

@@ -1,5 +1,6 @@
 -- The lines that are noted before a step cover what the step stores to.
-use Rattle.std.proofs.Common.{◌≡◌, inr, ℕ, suc, ◌<◌, ◌/◌, Bool, true, false, cond, List, [], Option, Some, None, get_or, length, map}
+use Rattle.std.proofs.Common.{◌≡◌, inr, ℕ, suc, ◌<◌, ◌/◌, Bool, true, false, cond, List, [], Option, Some, None, get_or}
+use Rattle.std.proofs.Common.{length, map}
 use Rattle.std.proofs.Common.{refl, sym, ap, ◌∙◌, subst}
 use Rattle.std.specs.Prelude.{Contains, nat_eq, option_and_then, option_map, slice_index}
 use Rattle.std.specs.List.{list_any}
@@ -32,16 +33,19 @@ use Rattle.tm_outcomes.specs.Places.{is_open}
 use Rattle.tm_outcomes.specs.Schedules.{Situation, after_pick, with_state}
 use Rattle.tm_outcomes.proofs.Runs.{step_changes}
 use Rattle.tm_outcomes.proofs.Somes.{same_in}
-use Rattle.tm_outcomes.proofs.Stored.{IsCommit, IsSameBut, Made, before_commit, begun, committed, else_of, halted, keeps}
+use Rattle.tm_outcomes.proofs.Stored.{IsCommit, IsSameBut, Made, before_commit, begun, committed, else_of, halted}
+use Rattle.tm_outcomes.proofs.Stored.{keeps}
 use Rattle.tm_outcomes.proofs.Stored.{left, loaded, on_lines, plain, stored, then_of}
 
 -- ---- by the core
 
 untouched : (lines memory other : List ℕ) → memory ≡ other → IsSameElsewhere lines memory other
-untouched lines memory other e = record { count = ap length e; same = λ address. inr (ap (λ (m : List ℕ). slice_index m address) e) }
+untouched lines memory other e =
+    record { count = ap length e; same = λ address. inr (ap (λ (m : List ℕ). slice_index m address) e) }
 
 -- a line of a set that was listed
-listed : (lines addresses : List ℕ) → set.from_list lines ≡ lines_of addresses → (address : ℕ) → Contains addresses address →
+listed : (lines addresses : List ℕ) → set.from_list lines ≡ lines_of addresses
+    → (address : ℕ) → Contains addresses address →
     Contains lines (address / 64)
 listed lines addresses same address (k, below, is) =
     let q : ℕ = address / 64 in
@@ -83,9 +87,11 @@ closed setting memory regs Loaded made e =
     keeps [] made.0 memory (loaded memory regs (value_at setting regs memory) (outside_at setting regs memory) made
     (then_of (setting.takes_two_steps regs)
     (after_load memory regs (value_at setting regs memory) (outside_at setting regs memory)) made e))
-closed setting memory regs (Stopped stop) made e = keeps [] made.0 memory (halted memory regs stop (outside_at setting regs memory) made e)
+closed setting memory regs (Stopped stop) made e =
+    keeps [] made.0 memory (halted memory regs stop (outside_at setting regs memory) made e)
 closed setting memory regs Idle made e = absurd (cc)
-closed setting memory regs Begun made e = keeps [] made.0 memory (begun memory regs (outside_at setting regs memory) made e)
+closed setting memory regs Begun made e =
+    keeps [] made.0 memory (begun memory regs (outside_at setting regs memory) made e)
 closed setting memory regs Inside made e = absurd (cc)
 closed setting memory regs Committed made e = absurd (cc)
 closed setting memory regs (Aborted status) made e = absurd (cc)
@@ -125,11 +131,15 @@ opened setting memory regs steps view lines body all Loaded made e = absurd (cc)
 opened setting memory regs steps view lines body all (Stopped stop) made e = absurd (cc)
 opened setting memory regs steps view lines body all Idle made e = absurd (cc)
 opened setting memory regs steps view lines body all Begun made e = absurd (cc)
-opened setting memory regs steps view lines body all Inside made e = untouched lines made.0 memory (left memory (Opened regs (suc steps)) made e)
+opened setting memory regs steps view lines body all Inside made e =
+    untouched lines made.0 memory (left memory (Opened regs (suc steps)) made e)
 opened setting memory regs steps view lines body all Committed made e =
-    on_commit setting memory regs steps view lines body all made (committed memory (isolated_body setting regs memory (suc steps)) made e)
-opened setting memory regs steps view lines body all (Aborted status) made e = untouched lines made.0 memory (ap (λ (x : Made). x.0) (sym (same_in e)))
-opened setting memory regs steps view lines body all (AbortedBy by status) made e = untouched lines made.0 memory (ap (λ (x : Made). x.0) (sym (same_in e)))
+    on_commit setting memory regs steps view lines body all made
+    (committed memory (isolated_body setting regs memory (suc steps)) made e)
+opened setting memory regs steps view lines body all (Aborted status) made e =
+    untouched lines made.0 memory (ap (λ (x : Made). x.0) (sym (same_in e)))
+opened setting memory regs steps view lines body all (AbortedBy by status) made e =
+    untouched lines made.0 memory (ap (λ (x : Made). x.0) (sym (same_in e)))
 
 -- ---- what is shown of a core tells which of these it is
 
@@ -151,15 +161,18 @@ has_body setting memory regs steps view (Some body) is_body e =
     by_body setting memory regs steps view body (nat_eq body.depth 0) is_body refl e
 has_body setting memory regs steps view None is_body e = absurd (cc)
 
-outside_mode : (mode : CoreState) (regs : Regs) (view : View) → Some (view_outside mode regs) ≡ Some view → view.mode ≡ mode
+outside_mode : (mode : CoreState) (regs : Regs) (view : View) → Some (view_outside mode regs) ≡ Some view
+    → view.mode ≡ mode
 outside_mode mode regs view e = ap (λ (v : View). v.mode) (sym (same_in e))
 
-midway_mode : (regs : Regs) (value : ℕ) (result : OutsideResult) (view : View) → view_midway regs value result ≡ Some view → view.mode ≡ Mid
+midway_mode : (regs : Regs) (value : ℕ) (result : OutsideResult) (view : View)
+    → view_midway regs value result ≡ Some view → view.mode ≡ Mid
 midway_mode regs value (Goes next store) view e = ap (λ (v : View). v.mode) (sym (same_in e))
 midway_mode regs value (Begins next) view e = absurd (cc)
 midway_mode regs value (Stops stop) view e = absurd (cc)
 
-of_depth : (regs : Regs) (body : Body) (ended : Bool) (view : View) → cond ended None (Some (view_of_body regs body)) ≡ Some view →
+of_depth : (regs : Regs) (body : Body) (ended : Bool) (view : View)
+    → cond ended None (Some (view_of_body regs body)) ≡ Some view →
     is_open view.mode ≡ true
 of_depth regs body true view e = absurd (cc)
 of_depth regs body false view e = ap (λ (v : View). is_open v.mode) (sym (same_in e))
@@ -169,11 +182,13 @@ open_mode : (regs : Regs) (body : Option Body) (view : View) → option_and_then
 open_mode regs (Some body) view e = of_depth regs body (nat_eq body.depth 0) view e
 open_mode regs None view e = absurd (cc)
 
-not_open : {X : Type 0} (mode : CoreState) (view : View) → is_open mode ≡ false → view.mode ≡ mode → is_open view.mode ≡ true → X
+not_open : {X : Type 0} (mode : CoreState) (view : View) → is_open mode ≡ false → view.mode ≡ mode
+    → is_open view.mode ≡ true → X
 not_open mode view goes is opens = absurd (false≢true (sym goes ∙ (ap is_open (sym is) ∙ opens)))
 
 -- of a core in a transaction that is not doomed, the lines of its write set
-pub open_noted : (by : Option Event) (setting : Setting) (memory : List ℕ) (core : Core) (doom : Option ℕ) (view : View) (lines : List ℕ) →
+pub open_noted : (by : Option Event) (setting : Setting) (memory : List ℕ) (core : Core) (doom : Option ℕ) (view : View)
+    (lines : List ℕ) →
     view_of setting memory core doom ≡ Some view → is_open view.mode ≡ true → set.from_list lines ≡ view.writes →
     (made : Made) → after_step_of setting memory core (owed_under by setting memory core doom) ≡ Some made →
     IsSameElsewhere lines made.0 memory
@@ -194,7 +209,8 @@ open_noted by setting memory (Midway regs value) (Some depth) view lines shown o
 open_noted by setting memory (Halted regs stop) (Some depth) view lines shown opens all made e = absurd (cc)
 
 -- of any other, what its step is told to reach
-pub reach_noted : (by : Option Event) (setting : Setting) (memory : List ℕ) (core : Core) (doom : Option ℕ) (view : View) →
+pub reach_noted : (by : Option Event) (setting : Setting) (memory : List ℕ) (core : Core)
+    (doom : Option ℕ) (view : View) →
     view_of setting memory core doom ≡ Some view → is_open view.mode ≡ false →
     (made : Made) → after_step_of setting memory core (owed_under by setting memory core doom) ≡ Some made →
     IsSameBut (addresses_stored_at setting memory core (owed_outcome setting memory core doom)) made.0 memory

@@ -1,5 +1,6 @@
 -- Unseen steps that are made at a place, one after another.
-use Rattle.std.proofs.Common.{◌≡◌, ℕ, Bool, true, false, cond, List, [], ◌∷◌, ◌++◌, Option, Some, None, refl, sym, ap, ◌∙◌, subst, append_assoc}
+use Rattle.std.proofs.Common.{◌≡◌, ℕ, Bool, true, false, cond, List, [], ◌∷◌, ◌++◌, Option, Some, None, refl, sym, ap}
+use Rattle.std.proofs.Common.{◌∙◌, subst, append_assoc}
 use Rattle.std.specs.Prelude.{All, nat_eq, option_and_then}
 use Rattle.std.proofs.lemmas.Bool.{false≢true}
 use Rattle.std.proofs.lemmas.List.{append-nil}
@@ -53,7 +54,8 @@ pub unseen_shown : (setting : Setting) (memory : List ℕ) (core : Core) (doom :
     view_of setting memory core doom ≡ Some view → is_unseen setting memory core doom ≡ unseen_by setting memory view
 unseen_shown setting memory (Closed regs) None view e =
     subst (λ (v : View). touches_nothing setting memory regs ≡ unseen_by setting memory v) (same_in e) refl
-unseen_shown setting memory (Midway regs value) None view e = midway_quiet setting memory regs value (setting.outside regs value) view e
+unseen_shown setting memory (Midway regs value) None view e =
+    midway_quiet setting memory regs value (setting.outside regs value) view e
 unseen_shown setting memory (Halted regs stop) None view e =
     subst (λ (v : View). false ≡ unseen_by setting memory v) (same_in e) refl
 unseen_shown setting memory (Opened regs steps) None view e =
@@ -65,13 +67,15 @@ unseen_shown setting memory (Midway regs value) (Some depth) view e = absurd (cc
 unseen_shown setting memory (Halted regs stop) (Some depth) view e = absurd (cc)
 
 -- a core that runs is outside of transactions
-midway_waits : (regs : Regs) (value : ℕ) (result : OutsideResult) (view : View) → view_midway regs value result ≡ Some view →
+midway_waits : (regs : Regs) (value : ℕ) (result : OutsideResult) (view : View)
+    → view_midway regs value result ≡ Some view →
     is_running view.mode ≡ false
 midway_waits regs value (Goes next store) view e = subst (λ (v : View). is_running v.mode ≡ false) (same_in e) refl
 midway_waits regs value (Begins next) view e = absurd (cc)
 midway_waits regs value (Stops stop) view e = absurd (cc)
 
-body_waits : (regs : Regs) (body : Body) (ended : Bool) (view : View) → cond ended None (Some (view_of_body regs body)) ≡ Some view →
+body_waits : (regs : Regs) (body : Body) (ended : Bool) (view : View)
+    → cond ended None (Some (view_of_body regs body)) ≡ Some view →
     is_running view.mode ≡ false
 body_waits regs body true view e = absurd (cc)
 body_waits regs body false view e = subst (λ (v : View). is_running v.mode ≡ false) (same_in e) refl
@@ -82,7 +86,8 @@ open_waits regs (Some body) view e = body_waits regs body (nat_eq body.depth 0) 
 open_waits regs None view e = absurd (cc)
 
 pub closed_shown : (setting : Setting) (memory : List ℕ) (core : Core) (doom : Option ℕ) (view : View) →
-    view_of setting memory core doom ≡ Some view → is_running view.mode ≡ true → (core ≡ Closed view.base) × (doom ≡ None)
+    view_of setting memory core doom ≡ Some view → is_running view.mode ≡ true
+    → (core ≡ Closed view.base) × (doom ≡ None)
 closed_shown setting memory (Closed regs) None view e running =
     (subst (λ (v : View). Closed regs ≡ Closed v.base) (same_in e) refl, refl)
 closed_shown setting memory (Midway regs value) None view e running =
@@ -108,9 +113,11 @@ module _ (trial : Trial) where
     leads = λ now stands. record { end = now; rests = refl; stands = stands };
   }
 
-  pub rests_once : (before after : Place) (pick : Pick) → IsUsualPick trial pick → GoesTo (trial_setting trial) before after pick →
+  pub rests_once : (before after : Place) (pick : Pick) → IsUsualPick trial pick
+      → GoesTo (trial_setting trial) before after pick →
       ((schedule : List Pick) → IsAt trial before schedule → IsAt trial after (schedule ++ pick ∷ [])) →
-      ((now : Situation) → StandsFor before.machine now.state now.doomed → IsUnseen (trial_setting trial) now pick.core) →
+      ((now : Situation) → StandsFor before.machine now.state now.doomed → IsUnseen (trial_setting trial) now pick.core)
+      →
       Rests trial before after (pick ∷ [])
   rests_once before after pick is goes at unseen = record {
     are_picks = All-cons (IsPickOf trial) pick [] is.is_pick (All-nil (IsPickOf trial));
@@ -125,7 +132,8 @@ module _ (trial : Trial) where
         };
   }
 
-  pub rests_then : (before middle after : Place) (picks more : List Pick) → Rests trial before middle picks → Rests trial middle after more →
+  pub rests_then : (before middle after : Place) (picks more : List Pick) → Rests trial before middle picks
+      → Rests trial middle after more →
       Rests trial before after (picks ++ more)
   rests_then before middle after picks more one other = record {
     are_picks = All-append (IsPickOf trial) picks more one.are_picks other.are_picks;
@@ -137,7 +145,8 @@ module _ (trial : Trial) where
         let ended = other.leads begun.end begun.stands in
         record {
           end = ended.end;
-          rests = then_lead (trial_setting trial) (IsAllowed trial.events) picks more now begun.end ended.end begun.rests ended.rests;
+          rests = then_lead (trial_setting trial) (IsAllowed trial.events) picks more now begun.end ended.end
+              begun.rests ended.rests;
           stands = ended.stands;
         };
   }
@@ -153,7 +162,8 @@ module _ (trial : Trial) where
     rests = rests_then before middle after one.picks other.picks one.rests other.rests;
   }
 
-  pub by_one : (before middle after : Place) (steps more most : List Pick) (pick : Pick) → RestsBy trial before middle steps more →
+  pub by_one : (before middle after : Place) (steps more most : List Pick) (pick : Pick)
+      → RestsBy trial before middle steps more →
       most ≡ more ++ pick ∷ [] → Rests trial middle after (pick ∷ []) → RestsBy trial before after steps most
   by_one before middle after steps more most pick one made other =
       by_then before middle after steps more most one (record { picks = pick ∷ []; made = made; rests = other })

@@ -1,5 +1,6 @@
 -- Steps that are made from a place on, and that lead round to what is shown as it was.
-use Rattle.std.proofs.Common.{◌≡◌, ℕ, ◌<◌, Bool, true, false, List, [], ◌∷◌, ◌++◌, Some, length, refl, sym, ap, ◌∙◌, subst, arith, append_assoc}
+use Rattle.std.proofs.Common.{◌≡◌, ℕ, ◌<◌, Bool, true, false, List, [], ◌∷◌, ◌++◌, Some, length, refl, sym, ap, ◌∙◌}
+use Rattle.std.proofs.Common.{subst, arith, append_assoc}
 use Rattle.std.specs.Prelude.{All, Contains, option_and_then}
 use Rattle.std.proofs.lemmas.List.{append-nil}
 use Rattle.std.proofs.lemmas.List.Elements.{All-append, All-cons, All-nil, All-weaker}
@@ -50,9 +51,11 @@ made_once trial before after old new pick steps schedule usual is at opening kep
   usual = subst (λ (s : List Pick). AreUsual trial s) (sym advances.made)
       (All-cons (IsUsualIn trial) pick advances.rest usual.usual advances.usual);
   at = advances.at;
-  place = place_at trial new after (schedule ++ steps) (ap (λ v. v.items) opening ∙ is.opening) advances.is_place (advances.at schedule at)
+  place = place_at trial new after (schedule ++ steps) (ap (λ v. v.items) opening ∙ is.opening) advances.is_place
+      (advances.at schedule at)
       (within_advanced trial new.lines.items schedule before after pick steps at advances
-      (within_more trial old.lines.items new.lines.items schedule kept (within_at trial old before schedule is at)) noted);
+      (within_more trial old.lines.items new.lines.items schedule kept (within_at trial old before schedule is at))
+      noted);
   opening = opening;
   kept = kept;
 }
@@ -73,9 +76,11 @@ pub made_then : (trial : Trial) (a b c : Place) (x y z : Written) (first more al
 made_then trial a b c x y z first more all made one other = record {
   are_picks = subst (λ (s : List Pick). All (IsPickOf trial) s) (sym made)
       (All-append (IsPickOf trial) first more one.are_picks other.are_picks);
-  usual = subst (λ (s : List Pick). AreUsual trial s) (sym made) (All-append (IsUsualIn trial) first more one.usual other.usual);
+  usual = subst (λ (s : List Pick). AreUsual trial s) (sym made)
+      (All-append (IsUsualIn trial) first more one.usual other.usual);
   at = λ schedule at.
-      subst (λ (s : List Pick). IsAt trial c s) (append_assoc schedule first more ∙ ap (λ (s : List Pick). schedule ++ s) (sym made))
+      subst (λ (s : List Pick). IsAt trial c s)
+      (append_assoc schedule first more ∙ ap (λ (s : List Pick). schedule ++ s) (sym made))
       (other.at (schedule ++ first) (one.at schedule at));
   place = other.place;
   opening = other.opening ∙ one.opening;
@@ -97,7 +102,8 @@ run_behind setting start (first ∷ picks) more now end e run =
 
 -- a machine stands for situations that are the same
 both_same : (trial : Trial) (place : Place) (schedule : List Pick) (now back : Situation) → IsAt trial place schedule →
-    StandsFor place.machine now.state now.doomed → StandsFor place.machine back.state back.doomed → AreSame trial now back
+    StandsFor place.machine now.state now.doomed → StandsFor place.machine back.state back.doomed
+    → AreSame trial now back
 both_same trial place schedule now back at one other =
     let setting = trial_setting trial in
     record {
@@ -105,13 +111,15 @@ both_same trial place schedule now back at one other =
       count = sym one.same_count ∙ other.same_count;
       each = λ core below.
           let here : core < length place.machine.views = (let e = one.same_count in omega arith) in
-          shows place.machine setting now at.rules one core here ∙ sym (shows place.machine setting back at.rules other core here);
+          shows place.machine setting now at.rules one core here
+          ∙ sym (shows place.machine setting back at.rules other core here);
     }
 
 -- what a place shows of each core that has not stopped
 abbrev pub IsFair : Place → List Pick → Type 0
 IsFair place steps =
-    (core : ℕ) → core < length place.machine.views → has_stopped (view_at place.machine core).mode ≡ false → HasStepOf core steps
+    (core : ℕ) → core < length place.machine.views → has_stopped (view_at place.machine core).mode ≡ false
+    → HasStepOf core steps
 
 fair_by : (stopped : Bool) (core : ℕ) (steps : List Pick) (place : Place) (now : Situation) →
     StandsFor place.machine now.state now.doomed → IsFair place steps → core < length place.machine.views →

@@ -1,5 +1,6 @@
 -- Schedules that grow by one step.
-use Rattle.std.proofs.Common.{◌≡◌, ℕ, Bool, true, false, cond, List, [], ◌∷◌, ◌++◌, Option, Some, None, refl, sym, ap, subst}
+use Rattle.std.proofs.Common.{◌≡◌, ℕ, Bool, true, false, cond, List, [], ◌∷◌, ◌++◌, Option, Some, None, refl, sym, ap}
+use Rattle.std.proofs.Common.{subst}
 use Rattle.std.specs.Prelude.{nat_lt, option_map, option_and_then}
 use Rattle.tm_outcomes.proofs.Somes.{same_in}
 use Rattle.tm_model.specs.Runs.{IsOwedUnder}
@@ -21,7 +22,8 @@ owed_is_next setting now pick outcome next owed is_step =
     (ap (option_map (with_state setting now pick.core outcome)) is_step)
 
 under : (o : Option Situation) (f g : Situation → Option Situation) (now next : Situation) →
-    ((middle : Situation) → f middle ≡ Some now → g middle ≡ Some next) → option_and_then f o ≡ Some now → option_and_then g o ≡ Some next
+    ((middle : Situation) → f middle ≡ Some now → g middle ≡ Some next) → option_and_then f o ≡ Some now
+    → option_and_then g o ≡ Some next
 under None f g now next goes e = cc
 under (Some middle) f g now next goes e = goes middle e
 
@@ -61,7 +63,9 @@ changed state next number true (Some made) e = record { made = made; is_made = r
 changed state next number true None e = absurd (cc)
 changed state next number false change e = absurd (cc)
 
-pub step_changes : (setting : Setting) (state next : State) (number : ℕ) (outcome : Outcome) → step setting state number outcome ≡ Some next →
+pub step_changes : (setting : Setting) (state next : State) (number : ℕ) (outcome : Outcome)
+    → step setting state number outcome ≡ Some next →
     Changes state next number (after_step_of setting state.memory (state.cores number) outcome)
 step_changes setting state next number outcome e =
-    changed state next number (nat_lt number state.count) (after_step_of setting state.memory (state.cores number) outcome) e
+    changed state next number (nat_lt number state.count)
+    (after_step_of setting state.memory (state.cores number) outcome) e

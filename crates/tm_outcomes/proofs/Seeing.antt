@@ -26,7 +26,8 @@ register_by true is_register a b register same =
 register_by false is_register a b register same = refl
 
 module _ (machine : ShownMachine) (now : Situation) (stands : StandsFor machine now.state now.doomed) where
-  same_base : (core : ℕ) → nat_lt core (length machine.views) ≡ true → (view_at machine core).base ≡ regs_of (now.state.cores core)
+  same_base : (core : ℕ) → nat_lt core (length machine.views) ≡ true
+      → (view_at machine core).base ≡ regs_of (now.state.cores core)
   same_base core is =
       base_is (machine_setting machine) now.state.memory (now.state.cores core) (now.doomed core) (view_at machine core)
       (stands.each core (ltb-true core (length machine.views) is))

@@ -22,22 +22,27 @@ use Rattle.tm_outcomes.specs.Verdicts.{HasStoppedBy}
 
 -- ---- each core's registers
 
-base_midway : (regs : Regs) (value : ℕ) (result : OutsideResult) (view : View) → view_midway regs value result ≡ Some view → (view.base ≡ regs) × (view.mode ≡ Mid)
+base_midway : (regs : Regs) (value : ℕ) (result : OutsideResult) (view : View)
+    → view_midway regs value result ≡ Some view → (view.base ≡ regs) × (view.mode ≡ Mid)
 base_midway regs value (Goes next store) view e =
     subst (λ (v : View). (v.base ≡ regs) × (v.mode ≡ Mid)) (same_in e) (refl, refl)
 base_midway regs value (Begins next) view e = absurd (cc)
 base_midway regs value (Stops stop) view e = absurd (cc)
 
-inside : (regs : Regs) (body : Body) (ended : Bool) (view : View) → cond ended None (Some (view_of_body regs body)) ≡ Some view → (view.base ≡ regs) × ((depth : ℕ) × (view.mode ≡ Open depth))
+inside : (regs : Regs) (body : Body) (ended : Bool) (view : View)
+    → cond ended None (Some (view_of_body regs body)) ≡ Some view
+    → (view.base ≡ regs) × ((depth : ℕ) × (view.mode ≡ Open depth))
 inside regs body true view e = absurd (cc)
 inside regs body false view e =
     subst (λ (v : View). (v.base ≡ regs) × ((depth : ℕ) × (v.mode ≡ Open depth))) (same_in e) (refl, (body.depth, refl))
 
-base_inside : (regs : Regs) (body : Option Body) (view : View) → option_and_then (view_inside regs) body ≡ Some view → (view.base ≡ regs) × ((depth : ℕ) × (view.mode ≡ Open depth))
+base_inside : (regs : Regs) (body : Option Body) (view : View) → option_and_then (view_inside regs) body ≡ Some view
+    → (view.base ≡ regs) × ((depth : ℕ) × (view.mode ≡ Open depth))
 base_inside regs (Some body) view e = inside regs body (nat_eq body.depth 0) view e
 base_inside regs None view e = absurd (cc)
 
-base_outside : (mode : CoreState) (regs : Regs) (view : View) → Some (view_outside mode regs) ≡ Some view → view.base ≡ regs
+base_outside : (mode : CoreState) (regs : Regs) (view : View) → Some (view_outside mode regs) ≡ Some view
+    → view.base ≡ regs
 base_outside mode regs view e = subst (λ (v : View). v.base ≡ regs) (same_in e) refl
 
 pub base_is : (setting : Setting) (memory : List ℕ) (core : Core) (doom : Option ℕ) (view : View) →
@@ -45,7 +50,8 @@ pub base_is : (setting : Setting) (memory : List ℕ) (core : Core) (doom : Opti
 base_is setting memory (Closed regs) None view e = base_outside Running regs view e
 base_is setting memory (Midway regs value) None view e = (base_midway regs value (setting.outside regs value) view e).0
 base_is setting memory (Halted regs stop) None view e = base_outside (AtStop stop) regs view e
-base_is setting memory (Opened regs steps) None view e = (base_inside regs (isolated_body setting regs memory steps) view e).0
+base_is setting memory (Opened regs steps) None view e =
+    (base_inside regs (isolated_body setting regs memory steps) view e).0
 base_is setting memory (Opened regs steps) (Some depth) view e = base_outside (Condemned depth) regs view e
 base_is setting memory (Closed regs) (Some depth) view e = cc
 base_is setting memory (Midway regs value) (Some depth) view e = cc
@@ -56,33 +62,41 @@ base_is setting memory (Halted regs stop) (Some depth) view e = cc
 abbrev pub IsHalted : Core → Type 0
 IsHalted core = (regs : Regs) × ((stop : Stop) × (core ≡ Halted regs stop))
 
-not_stopped : (core : Core) (mode : CoreState) (view : View) → has_stopped mode ≡ false → view.mode ≡ mode → has_stopped view.mode ≡ true → IsHalted core
+not_stopped : (core : Core) (mode : CoreState) (view : View) → has_stopped mode ≡ false → view.mode ≡ mode
+    → has_stopped view.mode ≡ true → IsHalted core
 not_stopped core mode view goes is stopped = absurd (false≢true (sym goes ∙ (ap has_stopped (sym is) ∙ stopped)))
 
-outside_mode : (mode : CoreState) (regs : Regs) (view : View) → Some (view_outside mode regs) ≡ Some view → view.mode ≡ mode
+outside_mode : (mode : CoreState) (regs : Regs) (view : View) → Some (view_outside mode regs) ≡ Some view
+    → view.mode ≡ mode
 outside_mode mode regs view e = subst (λ (v : View). v.mode ≡ mode) (same_in e) refl
 
 pub halted_is : (setting : Setting) (memory : List ℕ) (core : Core) (doom : Option ℕ) (view : View) →
     view_of setting memory core doom ≡ Some view → has_stopped view.mode ≡ true → IsHalted core
 halted_is setting memory (Halted regs stop) None view e stopped = (regs, (stop, refl))
-halted_is setting memory (Closed regs) None view e stopped = not_stopped _ Running view refl (outside_mode Running regs view e) stopped
+halted_is setting memory (Closed regs) None view e stopped =
+    not_stopped _ Running view refl (outside_mode Running regs view e) stopped
 halted_is setting memory (Midway regs value) None view e stopped =
     not_stopped _ Mid view refl (base_midway regs value (setting.outside regs value) view e).1 stopped
 halted_is setting memory (Opened regs steps) None view e stopped =
     let known = base_inside regs (isolated_body setting regs memory steps) view e in
     not_stopped _ (Open known.1.0) view refl known.1.1 stopped
-halted_is setting memory (Opened regs steps) (Some depth) view e stopped = not_stopped _ (Condemned depth) view refl (outside_mode (Condemned depth) regs view e) stopped
+halted_is setting memory (Opened regs steps) (Some depth) view e stopped =
+    not_stopped _ (Condemned depth) view refl (outside_mode (Condemned depth) regs view e) stopped
 halted_is setting memory (Closed regs) (Some depth) view e stopped = absurd (cc)
 halted_is setting memory (Midway regs value) (Some depth) view e stopped = absurd (cc)
 halted_is setting memory (Halted regs stop) (Some depth) view e stopped = absurd (cc)
 
 pub stopped_is : (setting : Setting) (memory : List ℕ) (core : Core) (doom : Option ℕ) (view : View) →
     view_of setting memory core doom ≡ Some view → IsHalted core → has_stopped view.mode ≡ true
-stopped_is setting memory (Halted regs stop) None view e halted = ap has_stopped (outside_mode (AtStop stop) regs view e)
+stopped_is setting memory (Halted regs stop) None view e halted =
+    ap has_stopped (outside_mode (AtStop stop) regs view e)
 stopped_is setting memory (Halted regs stop) (Some depth) view e halted = absurd (cc)
-stopped_is setting memory (Closed regs) doom view e halted = absurd (let h : Closed regs ≡ Halted halted.0 halted.1.0 = halted.1.1 in cc)
-stopped_is setting memory (Midway regs value) doom view e halted = absurd (let h : Midway regs value ≡ Halted halted.0 halted.1.0 = halted.1.1 in cc)
-stopped_is setting memory (Opened regs steps) doom view e halted = absurd (let h : Opened regs steps ≡ Halted halted.0 halted.1.0 = halted.1.1 in cc)
+stopped_is setting memory (Closed regs) doom view e halted =
+    absurd (let h : Closed regs ≡ Halted halted.0 halted.1.0 = halted.1.1 in cc)
+stopped_is setting memory (Midway regs value) doom view e halted =
+    absurd (let h : Midway regs value ≡ Halted halted.0 halted.1.0 = halted.1.1 in cc)
+stopped_is setting memory (Opened regs steps) doom view e halted =
+    absurd (let h : Opened regs steps ≡ Halted halted.0 halted.1.0 = halted.1.1 in cc)
 
 -- ---- why they have
 
@@ -97,7 +111,8 @@ stopped_by setting memory (Halted regs stop) None view why e is =
     let mode : view.mode ≡ AtStop stop = outside_mode (AtStop stop) regs view e in
     let same : stop ≡ why = (let both : AtStop stop ≡ AtStop why = sym mode ∙ is in cc) in
     (regs, ap (Halted regs) same)
-stopped_by setting memory (Closed regs) None view why e is = other_mode _ Running why view refl (outside_mode Running regs view e) is
+stopped_by setting memory (Closed regs) None view why e is =
+    other_mode _ Running why view refl (outside_mode Running regs view e) is
 stopped_by setting memory (Midway regs value) None view why e is =
     other_mode _ Mid why view refl (base_midway regs value (setting.outside regs value) view e).1 is
 stopped_by setting memory (Opened regs steps) None view why e is =
@@ -115,9 +130,12 @@ by_stop setting memory (Halted regs stop) None view why e halted =
     let same : stop ≡ why = (let h : Halted regs stop ≡ Halted halted.0 why = halted.1 in cc) in
     outside_mode (AtStop stop) regs view e ∙ ap (λ (s : Stop). AtStop s) same
 by_stop setting memory (Halted regs stop) (Some depth) view why e halted = absurd (cc)
-by_stop setting memory (Closed regs) doom view why e halted = absurd (let h : Closed regs ≡ Halted halted.0 why = halted.1 in cc)
-by_stop setting memory (Midway regs value) doom view why e halted = absurd (let h : Midway regs value ≡ Halted halted.0 why = halted.1 in cc)
-by_stop setting memory (Opened regs steps) doom view why e halted = absurd (let h : Opened regs steps ≡ Halted halted.0 why = halted.1 in cc)
+by_stop setting memory (Closed regs) doom view why e halted =
+    absurd (let h : Closed regs ≡ Halted halted.0 why = halted.1 in cc)
+by_stop setting memory (Midway regs value) doom view why e halted =
+    absurd (let h : Midway regs value ≡ Halted halted.0 why = halted.1 in cc)
+by_stop setting memory (Opened regs steps) doom view why e halted =
+    absurd (let h : Opened regs steps ≡ Halted halted.0 why = halted.1 in cc)
 
 -- ---- cores that no event aborts
 
@@ -135,7 +153,8 @@ same_under (event.Abort by) setting memory (Halted regs stop) doom view e closed
 
 -- ---- cores that an event aborts
 
-closed_mode : (core : Core) (doom : Option ℕ) (mode : CoreState) (view : View) → is_open mode ≡ false → view.mode ≡ mode →
+closed_mode : (core : Core) (doom : Option ℕ) (mode : CoreState) (view : View) → is_open mode ≡ false
+    → view.mode ≡ mode →
     is_open view.mode ≡ true → IsOpen core doom
 closed_mode core doom mode view closed is opened = absurd (false≢true (sym closed ∙ (ap is_open (sym is) ∙ opened)))
 
@@ -143,10 +162,13 @@ pub open_is : (setting : Setting) (memory : List ℕ) (core : Core) (doom : Opti
     view_of setting memory core doom ≡ Some view → is_open view.mode ≡ true → IsOpen core doom
 open_is setting memory (Opened regs steps) None view e opened = tt
 open_is setting memory (Opened regs steps) (Some depth) view e opened =
-    closed_mode (Opened regs steps) (Some depth) (Condemned depth) view refl (outside_mode (Condemned depth) regs view e) opened
-open_is setting memory (Closed regs) None view e opened = closed_mode (Closed regs) None Running view refl (outside_mode Running regs view e) opened
+    closed_mode (Opened regs steps) (Some depth) (Condemned depth) view refl
+    (outside_mode (Condemned depth) regs view e) opened
+open_is setting memory (Closed regs) None view e opened =
+    closed_mode (Closed regs) None Running view refl (outside_mode Running regs view e) opened
 open_is setting memory (Midway regs value) None view e opened =
-    closed_mode (Midway regs value) None Mid view refl (base_midway regs value (setting.outside regs value) view e).1 opened
+    closed_mode (Midway regs value) None Mid view refl
+    (base_midway regs value (setting.outside regs value) view e).1 opened
 open_is setting memory (Halted regs stop) None view e opened =
     closed_mode (Halted regs stop) None (AtStop stop) view refl (outside_mode (AtStop stop) regs view e) opened
 open_is setting memory (Closed regs) (Some depth) view e opened = absurd (cc)

@@ -1,5 +1,6 @@
 -- Links in the reverse direction.
-use Rattle.std.proofs.Common.{◌≡◌, ◌≢◌, inl, inr, ℕ, suc, ◌+◌, ◌<◌, ◌≤◌, List, [], ◌∷◌, Option, Some, None, length, get_or, set}
+use Rattle.std.proofs.Common.{◌≡◌, ◌≢◌, inl, inr, ℕ, suc, ◌+◌, ◌<◌, ◌≤◌, List, [], ◌∷◌, Option, Some, None, length}
+use Rattle.std.proofs.Common.{get_or, set}
 use Rattle.std.proofs.Common.{sym, ap, ◌∙◌, subst, arith, length-append}
 use Rattle.std.proofs.Math.ListN.{length-set}
 use Rattle.std.proofs.lemmas.Bool.{cases_eq, cases_lt}
@@ -33,7 +34,8 @@ last_here : (links : List Link) (node end : ℕ) → (link_at links end).to ≡ 
 last_here links node end here = (omega arith, here, λ other above below. absurd (omega arith))
 
 -- one link more
-pub one_more : (links : List Link) (nodes end to : ℕ) (before after : Sources) → to ≡ (link_at links end).to → to < nodes →
+pub one_more : (links : List Link) (nodes end to : ℕ) (before after : Sources)
+    → to ≡ (link_at links end).to → to < nodes →
     HasSource before after to end → AreSourcesTo links nodes before end → AreSourcesTo links nodes after (end + 1)
 one_more links nodes end to before after is below has so_far =
     let newest : List (Option ℕ) = before.newest.items in
@@ -55,10 +57,12 @@ one_more links nodes end to before after is below has so_far =
             | inr differs ↦
                 subst (λ (o : Option ℕ). IsLast links node (end + 1) o)
                 (sym (get_or-set_other newest to node (Some end) None differs))
-                (last_other links node end (get_or newest node None) (λ here. differs (sym here ∙ sym is)) (so_far.newest node within))
+                (last_other links node end (get_or newest node None) (λ here. differs (sym here ∙ sym is))
+                (so_far.newest node within))
           ]);
       older = λ index within.
-          subst (λ (os : List (Option ℕ)). IsLast links (link_at links index).to index (get_or os index None)) (sym has.older)
+          subst (λ (os : List (Option ℕ)). IsLast links (link_at links index).to index (get_or os index None))
+          (sym has.older)
           (elim (cases_lt index end) [
             | inl less ↦
                 subst (λ (o : Option ℕ). IsLast links (link_at links index).to index o)
@@ -68,7 +72,8 @@ one_more links nodes end to before after is below has so_far =
                 let same : index ≡ end = omega arith in
                 subst (λ (o : Option ℕ). IsLast links (link_at links index).to index o)
                 (sym (get_or_push older (get_or newest to None) None index (omega arith)))
-                (subst (λ n. IsLast links n index (get_or newest to None)) (is ∙ ap (λ n. (link_at links n).to) (sym same))
+                (subst (λ n. IsLast links n index (get_or newest to None))
+                (is ∙ ap (λ n. (link_at links n).to) (sym same))
                 (subst (λ n. IsLast links to n (get_or newest to None)) (sym same) (so_far.newest to below)))
           ]);
     }
@@ -121,12 +126,15 @@ abbrev pub left_of : Option ℕ → ℕ
 left_of None = 0
 left_of (Some index) = suc index
 
-pub fewer_left : (links : List Link) (node index : ℕ) (next : Option ℕ) → IsLast links node index next → left_of next < suc index
+pub fewer_left : (links : List Link) (node index : ℕ) (next : Option ℕ) → IsLast links node index next
+    → left_of next < suc index
 fewer_left links node index None is = omega arith
 fewer_left links node index (Some other) is = (let below = is.0 in omega arith)
 
-pub index_within : (links : List Link) (looked : ℕ → Type 0) (node index : ℕ) → IsLooking links looked node (Some index) → index < length links
+pub index_within : (links : List Link) (looked : ℕ → Type 0) (node index : ℕ) → IsLooking links looked node (Some index)
+    → index < length links
 index_within links looked node index so_far = (let within = so_far.within in let below = so_far.last.0 in omega arith)
 
-pub link_from : (links : List Link) (index : ℕ) → index < length links → IsLink links (link_at links index).from (link_at links index).to
+pub link_from : (links : List Link) (index : ℕ) → index < length links
+    → IsLink links (link_at links index).from (link_at links index).to
 link_from links index below = Contains-get_or links index no_link below

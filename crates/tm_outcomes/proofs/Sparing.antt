@@ -5,7 +5,8 @@ use Rattle.std.proofs.lemmas.List.Elements.{All-head, All-tail}
 use Rattle.tm_model.specs.declared.outcome.Event.{Event}
 use Rattle.tm_model.specs.declared.outcome.Pick.{Pick}
 use Rattle.tm_outcomes.specs.Nodes.{IsNeededBehind}
-use Rattle.tm_outcomes.specs.Outcomes.{AreUsual, IsAllowed, IsOpen, IsSparing, SparesEvents, trial_opening, trial_setting, usual_event}
+use Rattle.tm_outcomes.specs.Outcomes.{AreUsual, IsAllowed, IsOpen, IsSparing, SparesEvents, trial_opening}
+use Rattle.tm_outcomes.specs.Outcomes.{trial_setting, usual_event}
 use Rattle.tm_outcomes.specs.Places.{IsAt}
 use Rattle.tm_outcomes.specs.Resting.{Advances}
 use Rattle.tm_outcomes.specs.Schedules.{Situation, after_schedule}
@@ -27,20 +28,26 @@ is_allowed events event is = subst (λ (e : Option Event). IsAllowed events e) (
 abbrev pub IsUsualIn : Trial → Pick → Type 0
 IsUsualIn trial pick = pick.event ≡ usual_event trial.events
 
-usual_spare : (trial : Trial) (picks : List Pick) (now : Situation) → AreUsual trial picks → SparesEvents trial now picks
+usual_spare : (trial : Trial) (picks : List Pick) (now : Situation) → AreUsual trial picks
+    → SparesEvents trial now picks
 usual_spare trial [] now all = tt
-usual_spare trial (pick ∷ picks) now all =
-    (inl (All-head (IsUsualIn trial) pick picks all), λ next is_next. usual_spare trial picks next (All-tail (IsUsualIn trial) pick picks all))
+usual_spare trial (pick ∷ picks) now all = (
+  inl (All-head (IsUsualIn trial) pick picks all),
+  λ next is_next. usual_spare trial picks next (All-tail (IsUsualIn trial) pick picks all),
+)
 
 -- the ones, and from where they lead the others
 spare_then : (trial : Trial) (picks more : List Pick) (start now : Situation) → SparesEvents trial start picks →
-    after_schedule (trial_setting trial) start picks ≡ Some now → SparesEvents trial now more → SparesEvents trial start (picks ++ more)
-spare_then trial [] more start now spares run other = subst (λ (x : Situation). SparesEvents trial x more) (sym (same_in run)) other
+    after_schedule (trial_setting trial) start picks ≡ Some now → SparesEvents trial now more
+    → SparesEvents trial start (picks ++ more)
+spare_then trial [] more start now spares run other =
+    subst (λ (x : Situation). SparesEvents trial x more) (sym (same_in run)) other
 spare_then trial (pick ∷ picks) more start now spares run other = (
   spares.0,
   λ next is_next.
       spare_then trial picks more next now (spares.1 next is_next)
-      (sym (ap (option_and_then (λ (x : Situation). after_schedule (trial_setting trial) x picks)) is_next) ∙ run) other,
+      (sym (ap (option_and_then (λ (x : Situation). after_schedule (trial_setting trial) x picks)) is_next) ∙ run)
+      other,
 )
 
 -- a pick that is needed, and the unseen steps behind it

@@ -17,9 +17,12 @@ told_more stops more why told = (
 )
 
 -- the last of those that are looked for
-pub told_at : (stops : List Stop) (told : List ReachedStop) (state : State) (index at : ℕ) (d why : Stop) → index ≡ at → at < length stops →
-    get_or stops index why ≡ why → StopsBy state why → (StopsBy state (get_or stops at d) → IsStopTold told (get_or stops at d)) →
+pub told_at : (stops : List Stop) (told : List ReachedStop) (state : State) (index at : ℕ) (d why : Stop) → index ≡ at
+    → at < length stops →
+    get_or stops index why ≡ why → StopsBy state why
+    → (StopsBy state (get_or stops at d) → IsStopTold told (get_or stops at d)) →
     IsStopTold told why
 told_at stops told state index at d why last below is stopped found =
-    let same : get_or stops at d ≡ why = get_or_default stops at d why below ∙ subst (λ n. get_or stops n why ≡ why) last is in
+    let same : get_or stops at d ≡ why =
+    get_or_default stops at d why below ∙ subst (λ n. get_or stops n why ≡ why) last is in
     subst (λ (w : Stop). IsStopTold told w) same (found (subst (λ (w : Stop). StopsBy state w) (sym same) stopped))

@@ -1,10 +1,12 @@
 -- What a step stores to. At all other addresses it leaves memory.
-use Rattle.std.proofs.Common.{◌≡◌, ◌⊎◌, inl, inr, ℕ, zero, suc, ◌+◌, ◌<◌, ◌≤◌, ◌/◌, Bool, true, false, cond, List, [], ◌∷◌, Option, Some, None}
+use Rattle.std.proofs.Common.{◌≡◌, ◌⊎◌, inl, inr, ℕ, zero, suc, ◌+◌, ◌<◌, ◌≤◌, ◌/◌, Bool, true, false, cond, List, []}
+use Rattle.std.proofs.Common.{◌∷◌, Option, Some, None}
 use Rattle.std.proofs.Common.{get_or, length, refl, sym, ap, ◌∙◌, subst, arith}
 use Rattle.std.specs.Prelude.{Contains, nat_eq, option_and_then}
 use Rattle.std.proofs.lemmas.Bool.{cases_eq, eqb-true, false≢true}
 use Rattle.std.proofs.lemmas.List.{get_or-set_other, length-set}
-use Rattle.std.proofs.lemmas.List.Elements.{Contains-append_cases, Contains-append_left, Contains-append_right, Contains-push}
+use Rattle.std.proofs.lemmas.List.Elements.{Contains-append_cases, Contains-append_left, Contains-append_right}
+use Rattle.std.proofs.lemmas.List.Elements.{Contains-push}
 use Rattle.ia_regs.specs.declared.Regs.{Regs}
 use Rattle.tm_rule.specs.declared.kinds.InsideResult.{InsideResult}
 use Rattle.tm_rule.specs.declared.kinds.InsideResult.TheVariants.{GoesOn, Nests, Ends, Fails}
@@ -35,7 +37,8 @@ first_of : (x address : ℕ) (xs : List ℕ) → x ≡ address → Contains (x �
 first_of x address xs e =
     subst (λ a. Contains (x ∷ xs) a) e (Contains-append_left (x ∷ []) xs x (Contains-push [] x))
 
-pub stored : (memory : List ℕ) (stores : Stores) → IsSameBut (stored_addresses stores) (memory_after memory stores) memory
+pub stored : (memory : List ℕ) (stores : Stores)
+    → IsSameBut (stored_addresses stores) (memory_after memory stores) memory
 stored memory [] = record { count = refl; same = λ address. inr refl }
 stored memory (store ∷ stores) =
     let before = stored memory stores in
@@ -82,7 +85,8 @@ turned lines a b one = record {
   ];
 }
 
-pub then_same : (lines a b c : List ℕ) → IsSameElsewhere lines a b → IsSameElsewhere lines b c → IsSameElsewhere lines a c
+pub then_same : (lines a b c : List ℕ) → IsSameElsewhere lines a b → IsSameElsewhere lines b c
+    → IsSameElsewhere lines a c
 then_same lines a b c one other = record {
   count = one.count ∙ other.count;
   same = λ address. elim (one.same address) [
@@ -95,12 +99,14 @@ then_same lines a b c one other = record {
 }
 
 -- an address of so many from another on
-pub in_row : (start count address : ℕ) → Contains (addresses_from start count) address → (start ≤ address) × (address < start + count)
+pub in_row : (start count address : ℕ) → Contains (addresses_from start count) address
+    → (start ≤ address) × (address < start + count)
 in_row start zero address (k, below, is) = absurd (omega arith)
 in_row start (suc count) address among =
     elim (Contains-append_cases (start ∷ []) (addresses_from (start + 1) count) address among) [
       | inl here ↦ let e = only start address here in ((omega arith), (omega arith))
-      | inr later ↦ let rest = in_row (start + 1) count address later in ((let low = rest.0 in omega arith), (let high = rest.1 in omega arith))
+      | inr later ↦ let rest = in_row (start + 1) count address later in
+          ((let low = rest.0 in omega arith), (let high = rest.1 in omega arith))
     ]
   where
     only : (x y : ℕ) → Contains (x ∷ []) y → x ≡ y
@@ -127,7 +133,8 @@ left memory core made e = ap (λ (x : Made). x.0) (sym (same_in e))
 pub plain : (memory : List ℕ) (result : OutsideResult) (made : Made) → after_plain memory result ≡ Some made →
     IsSameBut (addresses_stored_outside result) made.0 memory
 plain memory (Goes regs store) made e =
-    subst (λ (x : Made). IsSameBut (stored_addresses (stores_of store)) x.0 memory) (same_in e) (stored memory (stores_of store))
+    subst (λ (x : Made). IsSameBut (stored_addresses (stores_of store)) x.0 memory) (same_in e)
+    (stored memory (stores_of store))
 plain memory (Begins regs) made e = absurd (cc)
 plain memory (Stops stop) made e = absurd (cc)
 
@@ -145,7 +152,8 @@ halted memory regs stop (Stops reason) made e =
 halted memory regs stop (Goes next store) made e = absurd (cc)
 halted memory regs stop (Begins next) made e = absurd (cc)
 
-pub begun : (memory : List ℕ) (regs : Regs) (result : OutsideResult) (made : Made) → after_begin memory regs result ≡ Some made →
+pub begun : (memory : List ℕ) (regs : Regs) (result : OutsideResult) (made : Made)
+    → after_begin memory regs result ≡ Some made →
     made.0 ≡ memory
 begun memory regs (Begins next) made e = ap (λ (x : Made). x.0) (sym (same_in e))
 begun memory regs (Goes next store) made e = absurd (cc)
@@ -160,7 +168,8 @@ pub record IsCommit (memory : List ℕ) (body : Option Body) (made : Made) : Typ
   pub stored : made.0 ≡ memory_after memory last.stores
 
 by_depth : (memory : List ℕ) (body : Body) (made : Made) (ended : Bool) → nat_eq body.depth 0 ≡ ended →
-    cond ended (Some (memory_after memory body.stores, Closed body.regs)) None ≡ Some made → IsCommit memory (Some body) made
+    cond ended (Some (memory_after memory body.stores, Closed body.regs)) None ≡ Some made
+    → IsCommit memory (Some body) made
 by_depth memory body made true is e = record {
   last = body;
   is_last = refl;
@@ -169,7 +178,8 @@ by_depth memory body made true is e = record {
 }
 by_depth memory body made false is e = absurd (cc)
 
-pub committed : (memory : List ℕ) (body : Option Body) (made : Made) → option_and_then (after_commit memory) body ≡ Some made →
+pub committed : (memory : List ℕ) (body : Option Body) (made : Made)
+    → option_and_then (after_commit memory) body ≡ Some made →
     IsCommit memory body made
 committed memory (Some body) made e = by_depth memory body made (nat_eq body.depth 0) refl e
 committed memory None made e = absurd (cc)
@@ -186,8 +196,10 @@ ends first loads (Nests regs) last goes e closed =
 ends first loads (Ends regs) last goes e closed = sym (ap (λ (b : Body). b.stores) (same_in e))
 ends first loads (Fails cause) last goes e closed = absurd (cc)
 
-goes_on : (first : Body) (ended : Bool) (loads : List ℕ) (result : InsideResult) (last : Body) → nat_eq first.depth 0 ≡ ended →
-    cond ended None (next_body first loads result) ≡ Some last → nat_eq first.depth 0 ≡ false → nat_eq last.depth 0 ≡ true →
+goes_on : (first : Body) (ended : Bool) (loads : List ℕ) (result : InsideResult) (last : Body)
+    → nat_eq first.depth 0 ≡ ended →
+    cond ended None (next_body first loads result) ≡ Some last → nat_eq first.depth 0 ≡ false
+    → nat_eq last.depth 0 ≡ true →
     last.stores ≡ first.stores
 goes_on first true loads result last is e goes closed = absurd (false≢true (sym goes ∙ is))
 goes_on first false loads result last is e goes closed = ends first loads result last goes e closed

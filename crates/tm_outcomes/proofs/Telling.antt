@@ -41,35 +41,42 @@ module _ (trial : Trial) (most done : ℕ) (search : Searching) (schedules : Lis
   pub is_verdict : (written : Written) → AreApart trial search.nodes.items written → IsVerdict trial told
   is_verdict written apart =
       let stops : search.found.stops.items ≡ told.stops.items = sym (ap (λ v. v.items) of.stops) in
-      let all : AreStops trial told.stops.items = subst (λ (s : List ReachedStop). AreStops trial s) stops searching.found.stops in
+      let all : AreStops trial told.stops.items =
+      subst (λ (s : List ReachedStop). AreStops trial s) stops searching.found.stops in
       let violations : search.found.violations.items ≡ told.violations.items = sym (ap (λ v. v.items) of.violations) in
       let violated : AreViolations trial told.violations.items =
       subst (λ (vs : List Violation). AreViolations trial vs) violations searching.found.violations in
       let counted = searching.tree.counted in
       record {
-        stuck = is_stuck trial most done search schedules searching whole of.verdict.marked of.verdict.marks told.stuck of.verdict.stuck;
+        stuck = is_stuck trial most done search schedules searching whole of.verdict.marked of.verdict.marks told.stuck
+            of.verdict.stuck;
         free = λ _ none. is_free trial most done search schedules searching whole of.verdict.marked of.verdict.marks
             (subst (λ (o : Option Stuck). TellsWayless search.nodes.items of.verdict.marked o) none of.verdict.stuck);
         cut = λ cut. absurd (false≢true (sym of.is_cut ∙ cut));
-        states = λ _. has_states trial most done search schedules searching whole of.verdict.marked of.verdict.marks told of.states
+        states = λ _. has_states trial most done search schedules searching whole of.verdict.marked
+            of.verdict.marks told of.states
             of.verdict.stuck (are_different trial search.nodes.items written schedules searching.tree apart);
         found = has_found trial search.nodes.items written schedules told searching.tree apart of.states;
-        cycle = is_cycle trial most done search schedules searching whole of.verdict.marked of.verdict.marks told.cycle of.verdict.cycle;
+        cycle = is_cycle trial most done search schedules searching whole of.verdict.marked of.verdict.marks told.cycle
+            of.verdict.cycle;
         cut_cycle = λ cut. absurd (false≢true (sym of.is_cut ∙ cut));
         stops = all.told;
         once = all.once;
         no_stop = λ _ schedule now reached why asked stopped.
             let there = met trial most done search schedules searching whole schedule now reached in
-            let stopped_there = stays_stopped (trial_setting trial) (IsAllowed trial.events) there.steps now there.end why there.rests stopped in
+            let stopped_there = stays_stopped (trial_setting trial) (IsAllowed trial.events) there.steps now there.end
+            why there.rests stopped in
             subst (λ (s : List ReachedStop). IsStopTold s why) stops
-            ((searching.explored.shown there.index (let w = there.leads.within in omega arith)).stops there.end there.leads why asked
+            ((searching.explored.shown there.index (let w = there.leads.within in omega arith)).stops there.end
+            there.leads why asked
             stopped_there);
         violations = violated.told;
         violated_once = violated.once;
         no_violation = λ _ schedule end reached has_ended index check asked violates.
             let there = met_end trial most done search schedules searching whole schedule end reached has_ended in
             subst (λ (vs : List Violation). IsViolationTold vs index) violations
-            ((searching.explored.shown there.0 (let w = there.1.within in omega arith)).checks end there.1 has_ended index check asked
+            ((searching.explored.shown there.0 (let w = there.1.within in omega arith)).checks end there.1 has_ended
+            index check asked
             violates);
       }
 
@@ -90,7 +97,8 @@ module _ (trial : Trial) (most : ℕ) (search : Searching) (told : Search) (full
       AreApart trial search.nodes.items written → IsVerdict trial told
   is_cut_verdict written schedules tree apart =
       let stops : search.found.stops.items ≡ told.stops.items = sym (ap (λ v. v.items) of.stops) in
-      let all : AreStops trial told.stops.items = subst (λ (s : List ReachedStop). AreStops trial s) stops found.stops in
+      let all : AreStops trial told.stops.items =
+      subst (λ (s : List ReachedStop). AreStops trial s) stops found.stops in
       let violations : search.found.violations.items ≡ told.violations.items = sym (ap (λ v. v.items) of.violations) in
       let violated : AreViolations trial told.violations.items =
       subst (λ (vs : List Violation). AreViolations trial vs) violations found.violations in
@@ -100,7 +108,8 @@ module _ (trial : Trial) (most : ℕ) (search : Searching) (told : Search) (full
         cut = λ _. of.stuck;
         states = λ whole. absurd (false≢true (sym whole ∙ of.is_cut));
         found = has_found trial search.nodes.items written schedules told tree apart of.states;
-        cycle = subst (λ (o : Option Cycle). IfSome o (λ c. IsCycle trial c.schedule.items c.steps.items)) (sym of.cycle) tt;
+        cycle = subst (λ (o : Option Cycle). IfSome o (λ c. IsCycle trial c.schedule.items c.steps.items))
+            (sym of.cycle) tt;
         cut_cycle = λ _. of.cycle;
         stops = all.told;
         once = all.once;

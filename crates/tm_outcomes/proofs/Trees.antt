@@ -1,5 +1,6 @@
 -- Trees that grow by one node.
-use Rattle.std.proofs.Common.{◌≡◌, inl, inr, ℕ, ◌+◌, ◌<◌, List, [], ◌∷◌, ◌++◌, length, map, get_or, refl, sym, ap, ◌∙◌, subst, arith, length-append}
+use Rattle.std.proofs.Common.{◌≡◌, inl, inr, ℕ, ◌+◌, ◌<◌, List, [], ◌∷◌, ◌++◌, length, map, get_or, refl, sym, ap, ◌∙◌}
+use Rattle.std.proofs.Common.{subst, arith, length-append}
 use Rattle.std.specs.Prelude.{All}
 use Rattle.std.proofs.Math.Seq.{get_or-append_seam}
 use Rattle.std.proofs.lemmas.Bool.{cases_lt}
@@ -11,21 +12,26 @@ use Rattle.tm_outcomes.specs.Outcomes.{trial_opening}
 use Rattle.tm_outcomes.specs.declared.nodes.Node.{Node}
 use Rattle.tm_outcomes.specs.declared.trial.Trial.{Trial}
 
-pub schedule_old : (schedules more : List (List Pick)) (index : ℕ) → index < length schedules → schedule_at (schedules ++ more) index ≡ schedule_at schedules index
+pub schedule_old : (schedules more : List (List Pick)) (index : ℕ) → index < length schedules
+    → schedule_at (schedules ++ more) index ≡ schedule_at schedules index
 schedule_old schedules more index below = get_or_append_left schedules more [] index below
 
-pub schedule_new : (schedules : List (List Pick)) (schedule : List Pick) (index : ℕ) → index ≡ length schedules → schedule_at (schedules ++ schedule ∷ []) index ≡ schedule
+pub schedule_new : (schedules : List (List Pick)) (schedule : List Pick) (index : ℕ) → index ≡ length schedules
+    → schedule_at (schedules ++ schedule ∷ []) index ≡ schedule
 schedule_new schedules schedule index last =
     ap (schedule_at (schedules ++ schedule ∷ [])) last ∙ get_or-append_seam schedules schedule [] []
 
 -- a part of each node
-pub part_old : {A : Type 0} (part : Node → A) (default : A) (nodes : List Node) (node : Node) (index : ℕ) → index < length nodes →
+pub part_old : {A : Type 0} (part : Node → A) (default : A) (nodes : List Node) (node : Node) (index : ℕ)
+    → index < length nodes →
     get_or (map part (nodes ++ node ∷ [])) index default ≡ get_or (map part nodes) index default
 part_old part default nodes node index below =
     ap (λ parts. get_or parts index default) (map-append part nodes (node ∷ []))
-    ∙ get_or_append_left (map part nodes) (part node ∷ []) default index (subst (λ n. index < n) (sym (length-map nodes part)) below)
+    ∙ get_or_append_left (map part nodes) (part node ∷ []) default index
+    (subst (λ n. index < n) (sym (length-map nodes part)) below)
 
-pub part_new : {A : Type 0} (part : Node → A) (default : A) (nodes : List Node) (node : Node) (index : ℕ) → index ≡ length nodes →
+pub part_new : {A : Type 0} (part : Node → A) (default : A) (nodes : List Node) (node : Node) (index : ℕ)
+    → index ≡ length nodes →
     get_or (map part (nodes ++ node ∷ [])) index default ≡ part node
 part_new part default nodes node index last =
     ap (λ parts. get_or parts index default) (map-append part nodes (node ∷ []))
@@ -33,13 +39,15 @@ part_new part default nodes node index last =
     ∙ get_or-append_seam (map part nodes) (part node) [] default)
 
 -- of the node at an index, whatever the default that it is asked with
-pub part_is : {A : Type 0} (part : Node → A) (default : A) (nodes : List Node) (index : ℕ) (node : Node) → index < length nodes →
+pub part_is : {A : Type 0} (part : Node → A) (default : A) (nodes : List Node) (index : ℕ) (node : Node)
+    → index < length nodes →
     get_or nodes index node ≡ node → get_or (map part nodes) index default ≡ part node
 part_is part default nodes index node below is =
     get_or-map part nodes index node default below ∙ ap part is
 
 -- what holds of the old nodes and of the new one holds of all
-each : (P : ℕ → Type 0) (nodes : List Node) (node : Node) → ((index : ℕ) → index < length nodes → P index) → ((index : ℕ) → index ≡ length nodes → P index) →
+each : (P : ℕ → Type 0) (nodes : List Node) (node : Node) → ((index : ℕ) → index < length nodes → P index)
+    → ((index : ℕ) → index ≡ length nodes → P index) →
     (index : ℕ) → index < length (nodes ++ node ∷ []) → P index
 each P nodes node before here index below =
     let long : length (nodes ++ node ∷ []) ≡ length nodes + 1 = length-append nodes (node ∷ []) in
@@ -59,8 +67,10 @@ grows trial nodes schedules node tree lower are_picks has_run =
     let now : List (List Pick) = schedules ++ added ∷ [] in
     let counted = tree.counted in
     let some = tree.some in
-    let old : (index : ℕ) → index < length nodes → schedule_at now index ≡ schedule_at schedules index = λ index below. schedule_old schedules (added ∷ []) index (omega arith) in
-    let new : (index : ℕ) → index ≡ length nodes → schedule_at now index ≡ added = λ index last. schedule_new schedules added index (omega arith) in
+    let old : (index : ℕ) → index < length nodes → schedule_at now index ≡ schedule_at schedules index =
+    λ index below. schedule_old schedules (added ∷ []) index (omega arith) in
+    let new : (index : ℕ) → index ≡ length nodes → schedule_at now index ≡ added =
+    λ index last. schedule_new schedules added index (omega arith) in
     let parent_old : (index : ℕ) → index < length nodes → parent_at nodes_now index ≡ parent_at nodes index =
     part_old (λ (n : Node). n.parent) 0 nodes node in
     let parent_new : (index : ℕ) → index ≡ length nodes → parent_at nodes_now index ≡ node.parent =
@@ -70,14 +80,16 @@ grows trial nodes schedules node tree lower are_picks has_run =
     let steps_new : (index : ℕ) → index ≡ length nodes → steps_at nodes_now index ≡ steps =
     part_new (λ (n : Node). n.steps.items) [] nodes node in
     record {
-      counted = length-append schedules (added ∷ []) ∙ (ap (λ n. n + 1) counted ∙ sym (length-append nodes (node ∷ [])));
+      counted =
+          length-append schedules (added ∷ []) ∙ (ap (λ n. n + 1) counted ∙ sym (length-append nodes (node ∷ [])));
       some = (let long : length nodes_now ≡ length nodes + 1 = length-append nodes (node ∷ []) in omega arith);
       root = old 0 some ∙ tree.root;
       lower = λ index positive below. each (λ i. 0 < i → parent_at nodes_now i < i) nodes node
           (λ i less more. subst (λ n. n < i) (sym (parent_old i less)) (tree.lower i more less))
           (λ i last more. subst (λ n. n < i) (sym (parent_new i last)) (omega arith))
           index below positive;
-      longer = λ index positive below. each (λ i. 0 < i → schedule_at now i ≡ schedule_at now (parent_at nodes_now i) ++ steps_at nodes_now i) nodes node
+      longer = λ index positive below. each
+          (λ i. 0 < i → schedule_at now i ≡ schedule_at now (parent_at nodes_now i) ++ steps_at nodes_now i) nodes node
           (λ i less more.
           let up = tree.lower i more less in
           old i less
@@ -94,7 +106,8 @@ grows trial nodes schedules node tree lower are_picks has_run =
       picks = each (λ i. All (IsPickOf trial) (schedule_at now i)) nodes node
           (λ i less. subst (λ (s : List Pick). All (IsPickOf trial) s) (sym (old i less)) (tree.picks i less))
           (λ i last. subst (λ (s : List Pick). All (IsPickOf trial) s) (sym (new i last))
-          (All-append (IsPickOf trial) (schedule_at schedules node.parent) steps (tree.picks node.parent lower) are_picks));
+          (All-append (IsPickOf trial) (schedule_at schedules node.parent) steps
+          (tree.picks node.parent lower) are_picks));
       runs = each (λ i. HasRun trial (schedule_at now i)) nodes node
           (λ i less. subst (λ (s : List Pick). HasRun trial s) (sym (old i less)) (tree.runs i less))
           (λ i last. subst (λ (s : List Pick). HasRun trial s) (sym (new i last)) has_run);

@@ -11,12 +11,14 @@ use Rattle.tm_outcomes.specs.declared.links.Link.{Link}
 use Rattle.tm_outcomes.specs.declared.nodes.Node.{Node}
 use Rattle.tm_outcomes.specs.declared.searching.Searching.{Searching}
 use Rattle.tm_outcomes.specs.declared.trial.Trial.{Trial}
-use Rattle.tm_outcomes.proofs.Follows.{ends_grown, explored_grown, explored_more, followed_grown, followed_more, shown_grown}
+use Rattle.tm_outcomes.proofs.Follows.{ends_grown, explored_grown, explored_more, followed_grown, followed_more}
+use Rattle.tm_outcomes.proofs.Follows.{shown_grown}
 
 -- the node is shown, and nothing else has changed
 pub begins : (trial : Trial) (most index : ℕ) (old new : Searching) → old.nodes.items ≡ new.nodes.items →
     old.links.items ≡ new.links.items → index < length old.nodes.items → AreFindings trial new.found →
-    ((schedules : List (List Pick)) → IsTree trial old.nodes.items schedules → Shows trial schedules old.found new.found index) →
+    ((schedules : List (List Pick)) → IsTree trial old.nodes.items schedules
+    → Shows trial schedules old.found new.found index) →
     HaveDone trial most old index → IsUnderway trial most new index 0
 begins trial most index old new nodes links within found shows done =
     let before = done.1 in
@@ -67,7 +69,8 @@ goes_on trial most index core old new found followed before =
         found = subst (λ (f : Findings). AreFindings trial f) found before.searching.found;
         few = followed.few;
       };
-      within = (let now = step.has_grown.tree.counted in let long = ap (λ (g : List (List Pick)). length g) grown in let sum = length-append schedules more in omega arith);
+      within = (let now = step.has_grown.tree.counted in let long = ap (λ (g : List (List Pick)). length g) grown in
+          let sum = length-append schedules more in omega arith);
       followed = λ other below event allowed. elim (cases_lt other core) [
         | inl less ↦
             let pick : Pick = record { core = other; event = event } in
@@ -85,7 +88,8 @@ goes_on trial most index core old new found followed before =
           (shown_grown trial schedules more old.found index here before.shown));
     }
 
-pub ends : (trial : Trial) (most index core : ℕ) (search : Searching) → length trial.program.now.entries ≤ core → IsUnderway trial most search index core → HaveDone trial most search (index + 1)
+pub ends : (trial : Trial) (most index core : ℕ) (search : Searching) → length trial.program.now.entries ≤ core
+    → IsUnderway trial most search index core → HaveDone trial most search (index + 1)
 ends trial most index core search all before = (
   before.schedules,
   record {
@@ -102,7 +106,8 @@ ends trial most index core search all before = (
       ];
       shown = λ other below. elim (cases_lt other index) [
         | inl less ↦ before.searching.explored.shown other less
-        | inr last ↦ let same : index ≡ other = omega arith in subst (λ i. IsShown trial before.schedules search.found i) same before.shown
+        | inr last ↦ let same : index ≡ other = omega arith in
+            subst (λ i. IsShown trial before.schedules search.found i) same before.shown
       ];
     };
     found = before.searching.found;

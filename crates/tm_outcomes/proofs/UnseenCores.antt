@@ -1,5 +1,5 @@
--- An unseen step of a core is the same on any memory, touches none of it, and is hit by no step of another core, nor are
--- the steps that follow it.
+-- An unseen step of a core is the same on any memory, touches none of it, and is hit by no step of another core, nor
+-- are the steps that follow it.
 use Rattle.std.proofs.Common.{◌≡◌, ℕ, Bool, true, false, cond, List, [], ◌∷◌, Option, Some, None, refl, sym, ap, ◌∙◌}
 use Rattle.std.specs.Prelude.{◌&&◌, ◌||◌}
 use Rattle.std.specs.Ordering.{nat_cmp}
@@ -11,14 +11,16 @@ use Rattle.tm_rule.specs.declared.kinds.OutsideResult.{OutsideResult}
 use Rattle.tm_rule.specs.declared.kinds.OutsideResult.TheVariants.{Goes, Begins, Stops}
 use Rattle.tm_rule.specs.declared.kinds.Stop.{Stop}
 use Rattle.tm_model.specs.Access.{Stores, bytes_at, have_line_of, lines_of, memory_after, stored_addresses, stores_of}
-use Rattle.tm_model.specs.Conflicts.{addresses_loaded_by, addresses_stored_by, addresses_stored_outside, depth_at_hit, doom_after_other, doom_after_own}
+use Rattle.tm_model.specs.Conflicts.{addresses_loaded_by, addresses_stored_by, addresses_stored_outside, depth_at_hit}
+use Rattle.tm_model.specs.Conflicts.{doom_after_other, doom_after_own}
 use Rattle.tm_model.specs.Explained.{addresses_stored_at}
 use Rattle.tm_model.specs.Isolated.{Body, first_body, isolated_body}
 use Rattle.tm_model.specs.Owed.{owed_outcome, owed_outside, owed_under, status_at}
 use Rattle.tm_model.specs.Types.{Conflict}
 use Rattle.tm_model.specs.Setting.{Setting, outside_at, value_at}
 use Rattle.tm_model.specs.State.{Closed, Core, Halted, Midway, Opened}
-use Rattle.tm_model.specs.Steps.{after_begin, after_load, after_plain, after_step_of, after_stop, registers_after_abort, stop_number}
+use Rattle.tm_model.specs.Steps.{after_begin, after_load, after_plain, after_step_of, after_stop, registers_after_abort}
+use Rattle.tm_model.specs.Steps.{stop_number}
 use Rattle.tm_model.specs.declared.outcome.Event.{Event}
 use Rattle.tm_model.specs.declared.outcome.Event.TheVariants as event
 use Rattle.tm_model.specs.declared.outcome.Outcome.{Outcome}
@@ -55,13 +57,15 @@ no_stores (store ∷ stores) e = absurd (cc)
 on_no_line : (addresses : List ℕ) → have_line_of (lines_of []) addresses ≡ false
 on_no_line [] = refl
 on_no_line (address ∷ addresses) =
-    ap (λ t. t || have_line_of (lines_of []) addresses) (set.contains-empty nat_cmp (line address)) ∙ on_no_line addresses
+    ap (λ t. t || have_line_of (lines_of []) addresses) (set.contains-empty nat_cmp (line address))
+    ∙ on_no_line addresses
 
 -- a body that has touched nothing is not hit
 fresh : (loads stores : List ℕ) (regs : Regs) (touched : List ℕ) → touched ≡ [] →
     depth_at_hit loads stores (Some (record { regs = regs; depth = 1; stores = []; loads = touched })) ≡ None
 fresh loads stores regs touched none =
-    ap (λ (l : List ℕ). depth_at_hit loads stores (Some (record { regs = regs; depth = 1; stores = []; loads = l }))) none
+    ap (λ (l : List ℕ). depth_at_hit loads stores (Some (record { regs = regs; depth = 1; stores = []; loads = l })))
+    none
     ∙ (ap (λ t. cond (t || (t || have_line_of (lines_of []) loads)) (Some 1) None) (on_no_line stores)
     ∙ ap (λ t. cond t (Some 1) None) (on_no_line loads))
 
@@ -77,23 +81,27 @@ module _ (setting : Setting) (regs : Regs) (loads_none : setting.load_of regs �
   outside_is : (memory : List ℕ) → outside_at setting regs memory ≡ at_none
   outside_is memory = ap (λ v. setting.outside regs v) (value_is memory)
 
-  owed_closed : (by : Option Event) (memory : List ℕ) → owed_under by setting memory (Closed regs) None ≡ owed_outside (setting.takes_two_steps regs) at_none
+  owed_closed : (by : Option Event) (memory : List ℕ)
+      → owed_under by setting memory (Closed regs) None ≡ owed_outside (setting.takes_two_steps regs) at_none
   owed_closed None memory = ap (owed_outside (setting.takes_two_steps regs)) (outside_is memory)
   owed_closed (Some (event.Abort by)) memory = ap (owed_outside (setting.takes_two_steps regs)) (outside_is memory)
 
   -- the instruction stops
-  stops : (stop : Stop) → at_none ≡ Stops stop → (memory : List ℕ) → after_stop memory regs stop (outside_at setting regs memory) ≡ Some (memory, Halted regs stop)
+  stops : (stop : Stop) → at_none ≡ Stops stop → (memory : List ℕ)
+      → after_stop memory regs stop (outside_at setting regs memory) ≡ Some (memory, Halted regs stop)
   stops stop is memory =
       ap (after_stop memory regs stop) (outside_is memory ∙ is)
       ∙ ap (λ t. cond t (Some (memory, Halted regs stop)) None) (eq-eqb (stop_number stop) (stop_number stop) refl)
 
-  begins : (next : Regs) → at_none ≡ Begins next → (memory : List ℕ) → after_begin memory regs (outside_at setting regs memory) ≡ Some (memory, Opened regs 1)
+  begins : (next : Regs) → at_none ≡ Begins next
+      → (memory : List ℕ) → after_begin memory regs (outside_at setting regs memory) ≡ Some (memory, Opened regs 1)
   begins next is memory = ap (after_begin memory regs) (outside_is memory ∙ is)
 
   begun_after : (next : Regs) → at_none ≡ Begins next → (memory loads stores : List ℕ) →
       doom_after_other setting memory loads stores (Opened regs 1) None ≡ None
   begun_after next is memory loads stores =
-      ap (λ (r : OutsideResult). depth_at_hit loads stores (first_body (setting.load_of regs) r)) (outside_is memory ∙ is)
+      ap (λ (r : OutsideResult). depth_at_hit loads stores (first_body (setting.load_of regs) r))
+      (outside_is memory ∙ is)
       ∙ fresh loads stores next (setting.load_of regs) loads_none
 
   by_result : (two : Bool) (result : OutsideResult) → setting.takes_two_steps regs ≡ two → at_none ≡ result →
@@ -125,9 +133,11 @@ module _ (setting : Setting) (regs : Regs) (loads_none : setting.load_of regs �
   by_result true (Goes next store) is_two is none still = record {
     outcome = Loaded;
     next = Midway regs (setting.value_of regs []);
-    is_owed = λ by memory. owed_closed by memory ∙ (ap (owed_outside (setting.takes_two_steps regs)) is ∙ ap (λ t. owed_outside t (Goes next store)) is_two);
+    is_owed = λ by memory. owed_closed by memory
+        ∙ (ap (owed_outside (setting.takes_two_steps regs)) is ∙ ap (λ t. owed_outside t (Goes next store)) is_two);
     is_made = λ memory.
-        ap (λ t. cond t (after_load memory regs (value_at setting regs memory) (outside_at setting regs memory)) None) is_two
+        ap (λ t. cond t (after_load memory regs (value_at setting regs memory) (outside_at setting regs memory)) None)
+        is_two
         ∙ (ap (after_load memory regs (value_at setting regs memory)) (outside_is memory ∙ is)
         ∙ ap (λ v. Some (memory, Midway regs v)) (value_is memory));
     loads = λ memory. loads_none;
@@ -139,7 +149,8 @@ module _ (setting : Setting) (regs : Regs) (loads_none : setting.load_of regs �
   by_result false (Goes next store) is_two is none still = record {
     outcome = Plain;
     next = Closed next;
-    is_owed = λ by memory. owed_closed by memory ∙ (ap (owed_outside (setting.takes_two_steps regs)) is ∙ ap (λ t. owed_outside t (Goes next store)) is_two);
+    is_owed = λ by memory. owed_closed by memory
+        ∙ (ap (owed_outside (setting.takes_two_steps regs)) is ∙ ap (λ t. owed_outside t (Goes next store)) is_two);
     is_made = λ memory.
         ap (λ t. cond t None (after_plain memory (outside_at setting regs memory))) is_two
         ∙ (ap (after_plain memory) (outside_is memory ∙ is)
@@ -152,11 +163,14 @@ module _ (setting : Setting) (regs : Regs) (loads_none : setting.load_of regs �
     still = still;
   }
 
-  owed_here : (memory : List ℕ) → owed_outcome setting memory (Closed regs) None ≡ owed_outside (setting.takes_two_steps regs) at_none
+  owed_here : (memory : List ℕ)
+      → owed_outcome setting memory (Closed regs) None ≡ owed_outside (setting.takes_two_steps regs) at_none
   owed_here memory = owed_closed None memory
 
   -- what is stored is the same on any memory
-  stored_is : (outcome : Outcome) (memory other : List ℕ) → addresses_stored_at setting memory (Closed regs) outcome ≡ addresses_stored_at setting other (Closed regs) outcome
+  stored_is : (outcome : Outcome) (memory other : List ℕ)
+      → addresses_stored_at setting memory (Closed regs) outcome
+      ≡ addresses_stored_at setting other (Closed regs) outcome
   stored_is Plain memory other = ap addresses_stored_outside (outside_is memory ∙ sym (outside_is other))
   stored_is Loaded memory other = refl
   stored_is (Stopped stop) memory other = refl
@@ -167,7 +181,9 @@ module _ (setting : Setting) (regs : Regs) (loads_none : setting.load_of regs �
   stored_is (Aborted status) memory other = refl
   stored_is (AbortedBy by status) memory other = refl
 
-  closed : (memory : List ℕ) → are_none (addresses_stored_at setting memory (Closed regs) (owed_outcome setting memory (Closed regs) None)) ≡ true →
+  closed : (memory : List ℕ)
+      → are_none (addresses_stored_at setting memory (Closed regs) (owed_outcome setting memory (Closed regs) None))
+      ≡ true →
       IsUnseenStep setting (Closed regs) None
   closed memory none =
       let two : Bool = setting.takes_two_steps regs in
@@ -176,7 +192,9 @@ module _ (setting : Setting) (regs : Regs) (loads_none : setting.load_of regs �
       stored_is outcome other memory
       ∙ (ap (addresses_stored_at setting memory (Closed regs)) (sym (owed_here memory)) ∙ empty _ none) in
       let still : (other : List ℕ) → is_unseen setting other (Closed regs) None ≡ true = λ other.
-      ap (λ (l : List ℕ). are_none l && are_none (addresses_stored_at setting other (Closed regs) (owed_outcome setting other (Closed regs) None))) loads_none
+      ap (λ (l : List ℕ). are_none l
+      && are_none (addresses_stored_at setting other (Closed regs) (owed_outcome setting other (Closed regs) None)))
+      loads_none
       ∙ ap are_none (ap (addresses_stored_at setting other (Closed regs)) (owed_here other) ∙ stored other) in
       by_result two at_none refl refl stored still
 
@@ -197,14 +215,18 @@ doomed setting regs steps depth =
       still = λ memory. refl;
     }
   where
-    under : (by : Option Event) (memory : List ℕ) → owed_under by setting memory (Opened regs steps) (Some depth) ≡ owed_outcome setting [] (Opened regs steps) (Some depth)
+    under : (by : Option Event) (memory : List ℕ)
+        → owed_under by setting memory (Opened regs steps) (Some depth)
+        ≡ owed_outcome setting [] (Opened regs steps) (Some depth)
     under None memory = refl
     under (Some (event.Abort by)) memory = refl
 
-pub unseen_step : (setting : Setting) (memory : List ℕ) (core : Core) (doom : Option ℕ) → is_unseen setting memory core doom ≡ true →
+pub unseen_step : (setting : Setting) (memory : List ℕ) (core : Core) (doom : Option ℕ)
+    → is_unseen setting memory core doom ≡ true →
     IsUnseenStep setting core doom
 unseen_step setting memory (Closed regs) None e =
-    let parts = both (are_none (setting.load_of regs)) (are_none (addresses_stored_at setting memory (Closed regs) (owed_outcome setting memory (Closed regs) None))) e in
+    let parts = both (are_none (setting.load_of regs))
+    (are_none (addresses_stored_at setting memory (Closed regs) (owed_outcome setting memory (Closed regs) None))) e in
     closed setting regs (empty (setting.load_of regs) parts.0) memory parts.1
 unseen_step setting memory (Opened regs steps) (Some depth) e = doomed setting regs steps depth
 unseen_step setting memory (Closed regs) (Some depth) e = absurd (false≢true e)
@@ -217,7 +239,8 @@ untouched_body : (body : Option Body) → depth_at_hit [] [] body ≡ None
 untouched_body None = refl
 untouched_body (Some body) = refl
 
-pub untouched : (setting : Setting) (memory : List ℕ) (core : Core) (doom : Option ℕ) → doom_after_other setting memory [] [] core doom ≡ doom
+pub untouched : (setting : Setting) (memory : List ℕ) (core : Core) (doom : Option ℕ)
+    → doom_after_other setting memory [] [] core doom ≡ doom
 untouched setting memory (Opened regs steps) None = untouched_body (isolated_body setting regs memory steps)
 untouched setting memory (Opened regs steps) (Some depth) = refl
 untouched setting memory (Closed regs) doom = refl

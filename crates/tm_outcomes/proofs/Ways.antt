@@ -1,5 +1,6 @@
 -- Nodes with a way to an end, and nodes without one.
-use Rattle.std.proofs.Common.{◌≡◌, ℕ, zero, suc, ◌<◌, ◌≤◌, Bool, true, false, List, [], ◌∷◌, ◌++◌, Option, Some, None, get_or, length, refl, sym, ap, ◌∙◌, subst, arith}
+use Rattle.std.proofs.Common.{◌≡◌, ℕ, zero, suc, ◌<◌, ◌≤◌, Bool, true, false, List, [], ◌∷◌, ◌++◌, Option, Some, None}
+use Rattle.std.proofs.Common.{get_or, length, refl, sym, ap, ◌∙◌, subst, arith}
 use Rattle.std.specs.Prelude.{All, IfSome, option_and_then}
 use Rattle.std.proofs.lemmas.Bool.{false≢true}
 use Rattle.std.proofs.lemmas.List.Elements.{All-append, All-cons, All-contains, All-head, All-nil, All-tail, All-weaker}
@@ -24,20 +25,24 @@ use Rattle.tm_outcomes.proofs.Runs.{run_then}
 use Rattle.tm_outcomes.proofs.Somes.{same_in}
 
 -- what leads by unseen steps to where some schedule goes on to an end goes on to it, too
-rested_end : (trial : Trial) (picks : List Pick) (now rest : Situation) → RestsAt trial now picks rest → CanEnd trial rest → CanEnd trial now
+rested_end : (trial : Trial) (picks : List Pick) (now rest : Situation) → RestsAt trial now picks rest
+    → CanEnd trial rest → CanEnd trial now
 rested_end trial picks now rest rests can =
     let setting = trial_setting trial in
     let under : Option Event → Type 0 = IsAllowed trial.events in
     record {
       schedule = picks ++ can.schedule;
-      allowed = All-append (IsAllowedIn trial) picks can.schedule (lead_allowed setting under picks now rest rests) can.allowed;
+      allowed = All-append (IsAllowedIn trial) picks can.schedule
+          (lead_allowed setting under picks now rest rests) can.allowed;
       end = can.end;
-      is_run = run_then setting now picks can.schedule rest can.end (lead_runs setting under picks now rest rests) can.is_run;
+      is_run = run_then setting now picks can.schedule rest can.end
+          (lead_runs setting under picks now rest rests) can.is_run;
       has_ended = can.has_ended;
     }
 
 -- along a way to an end some schedule goes on to it
-pub can_end : (trial : Trial) (schedules : List (List Pick)) (links : List Link) (ends : List ℕ) → All (IsStep trial schedules) links →
+pub can_end : (trial : Trial) (schedules : List (List Pick)) (links : List Link) (ends : List ℕ)
+    → All (IsStep trial schedules) links →
     All (IsEnd trial schedules) ends → (way : List ℕ) (node : ℕ) (now : Situation) → IsWay links ends node way →
     LeadsTo trial schedules node now → CanEnd trial now
 can_end trial schedules links ends steps are_ends [] node now is leads = record {
@@ -57,20 +62,24 @@ can_end trial schedules links ends steps are_ends (next ∷ way) node now is lea
       schedule = step.pick ∷ rest.schedule;
       allowed = All-cons (IsAllowedIn trial) step.pick rest.schedule step.is_pick.allowed rest.allowed;
       end = rest.end;
-      is_run = ap (option_and_then (λ after. after_schedule (trial_setting trial) after rest.schedule)) goes.is_next ∙ rest.is_run;
+      is_run = ap (option_and_then (λ after. after_schedule (trial_setting trial) after rest.schedule)) goes.is_next
+          ∙ rest.is_run;
       has_ended = rest.has_ended;
     }
 
 module _ (trial : Trial) (most done : ℕ) (search : Searching) (schedules : List (List Pick))
     (searching : IsSearching trial most search schedules done) (whole : length search.nodes.items ≤ done)
-    (marked : List Bool) (marks : AreMarks search.links.items search.found.ends.items (length search.nodes.items) marked) where
+    (marked : List Bool)
+    (marks : AreMarks search.links.items search.found.ends.items (length search.nodes.items) marked) where
   followed : (index : ℕ) → index < length schedules → (pick : Pick) → IsPickOf trial pick →
       IsFollowed trial schedules search.links.items index pick
   followed index below = (let counted = searching.tree.counted in searching.explored.followed index (omega arith))
 
   -- from a node that is not marked no schedule leads to an end
-  never_ends : (most : ℕ) (picks : List Pick) (now end : Situation) (node : ℕ) → length picks ≤ most → ¬ IsMarked marked node →
-      LeadsTo trial schedules node now → AreAllowed trial picks → after_schedule (trial_setting trial) now picks ≡ Some end →
+  never_ends : (most : ℕ) (picks : List Pick) (now end : Situation) (node : ℕ) → length picks ≤ most
+      → ¬ IsMarked marked node →
+      LeadsTo trial schedules node now → AreAllowed trial picks
+      → after_schedule (trial_setting trial) now picks ≡ Some end →
       HasEnded end.state → ⊥
   never_ends most [] now end node few not_marked leads allowed e has_ended =
       let counted = searching.tree.counted in
@@ -109,7 +118,8 @@ module _ (trial : Trial) (most done : ℕ) (search : Searching) (schedules : Lis
       let way = marks.ways node marked_here in (
         run.0,
         reached node run.0 within run.1,
-        can_end trial schedules search.links.items search.found.ends.items searching.steps searching.ends way.0 node run.0 way.1
+        can_end trial schedules search.links.items search.found.ends.items searching.steps searching.ends way.0
+            node run.0 way.1
             (leads_here trial schedules node run.0 (omega arith) run.1 run.2),
       )
   judged node within false not_here =
@@ -170,21 +180,25 @@ module _ (trial : Trial) (most done : ℕ) (search : Searching) (schedules : Lis
           allowed = subst (λ (s : List Pick). AreAllowed trial s) same
               (All-weaker (IsPickOf trial) (IsAllowedIn trial) (λ (pick : Pick) is. is.allowed)
               (schedule_at schedules tells.node) (tree.picks tells.node tells.within));
-          is_run = subst (λ (s : List Pick). after_schedule (trial_setting trial) (trial_opening trial) s ≡ Some run.0) same run.1;
+          is_run = subst (λ (s : List Pick). after_schedule (trial_setting trial) (trial_opening trial) s ≡ Some run.0)
+              same run.1;
         },
-        λ can. never_ends (length can.schedule) can.schedule run.0 can.end tells.node (omega arith) tells.not_marked leads
+        λ can. never_ends (length can.schedule) can.schedule run.0 can.end tells.node (omega arith)
+            tells.not_marked leads
             can.allowed can.is_run can.has_ended,
         subst (λ (s : List Pick). IsSparing trial s) same run.3,
       )
 
-  pub is_free : TellsWayless search.nodes.items marked None → (schedule : List Pick) (now : Situation) → IsReached trial schedule now →
+  pub is_free : TellsWayless search.nodes.items marked None
+      → (schedule : List Pick) (now : Situation) → IsReached trial schedule now →
       CanEnd trial now
   is_free all schedule now reached =
       let counted = searching.tree.counted in
       let there = met trial most done search schedules searching whole schedule now reached in
       let way = marks.ways there.index (all there.index (let w = there.leads.within in omega arith)) in
       rested_end trial there.steps now there.end there.rests
-      (can_end trial schedules search.links.items search.found.ends.items searching.steps searching.ends way.0 there.index
+      (can_end trial schedules search.links.items search.found.ends.items searching.steps searching.ends
+      way.0 there.index
       there.end way.1 there.leads)
 
   -- nor is a cycle told from where no end can be reached
@@ -200,7 +214,8 @@ module _ (trial : Trial) (most done : ℕ) (search : Searching) (schedules : Lis
       let entries : round.now.state.count ≡ length trial.program.now.entries =
       subst (λ (x : Situation). x.state.count ≡ length trial.program.now.entries) at count.2 in
       let same : schedule_at schedules tells.node ≡ cycle.schedule.items = sym (tells.schedule schedules tree) in
-      let leads = leads_here trial schedules tells.node round.now (let w = tells.within in omega arith) round.is_run entries in
+      let leads =
+      leads_here trial schedules tells.node round.now (let w = tells.within in omega arith) round.is_run entries in
       let way = marks.ways tells.node tells.is_marked in
       record {
         now = round.now;
@@ -208,12 +223,14 @@ module _ (trial : Trial) (most done : ℕ) (search : Searching) (schedules : Lis
           allowed = subst (λ (s : List Pick). AreAllowed trial s) same
               (All-weaker (IsPickOf trial) (IsAllowedIn trial) (λ (pick : Pick) is. is.allowed)
               (schedule_at schedules tells.node) (tree.picks tells.node tells.within));
-          is_run = subst (λ (s : List Pick). after_schedule (trial_setting trial) (trial_opening trial) s ≡ Some round.now) same
+          is_run = subst
+              (λ (s : List Pick). after_schedule (trial_setting trial) (trial_opening trial) s ≡ Some round.now) same
               round.is_run;
         };
         sparing = subst (λ (s : List Pick). IsSparing trial s) same count.3;
         goes_on = round.goes_on;
-        can_end = can_end trial schedules search.links.items search.found.ends.items searching.steps searching.ends way.0
+        can_end =
+            can_end trial schedules search.links.items search.found.ends.items searching.steps searching.ends way.0
             tells.node round.now way.1 leads;
         leads_back = round.leads_back;
       }

@@ -1,6 +1,7 @@
 -- A number by which states that may be the same are found: a function of what is shown of a state, so that states that
 -- are the same have the same number. Which one it is matters to nothing, since states of one number are compared.
-use Rattle.std.specs.Prelude.{ℕ, zero, suc, ◌+◌, ◌*◌, ◌/◌, ◌%◌, ◌^◌, if◌then◌else◌, List, [], ◌∷◌, bit_xor, length, nat_eq, nat_lt}
+use Rattle.std.specs.Prelude.{ℕ, zero, suc, ◌+◌, ◌*◌, ◌/◌, ◌%◌, ◌^◌, if◌then◌else◌, List, [], ◌∷◌, bit_xor, length}
+use Rattle.std.specs.Prelude.{nat_eq, nat_lt}
 use Rattle.std.specs.Prelude.{slice_index}
 use Rattle.std.specs.Int.{w64, from_le_bytes, rotate_left}
 use Rattle.std.specs.List.{fold}

@@ -1,11 +1,13 @@
 -- A search while it goes on.
-use Rattle.std.specs.Prelude.{◌≡◌, ◌≢◌, ℕ, ◌<◌, ◌≤◌, Bool, true, false, List, ◌++◌, All, Contains, Option, Some, None, IfSome, length}
+use Rattle.std.specs.Prelude.{◌≡◌, ◌≢◌, ℕ, ◌<◌, ◌≤◌, Bool, true, false, List, ◌++◌, All, Contains, Option, Some, None}
+use Rattle.std.specs.Prelude.{IfSome, length}
 use Rattle.std.specs.List.{AllPairs}
 use Rattle.tm_model.specs.declared.outcome.Event.{Event}
 use Rattle.tm_model.specs.declared.outcome.Pick.{Pick}
 use Rattle.tm_outcomes.specs.Links.{IsLink}
 use Rattle.tm_outcomes.specs.Marks.{AreMarks, IsMarked, unmarked}
-use Rattle.tm_outcomes.specs.Nodes.{HasGrown, IsEnd, IsExplored, IsFollowed, IsPickOf, IsShown, IsStep, IsTree, schedule_at}
+use Rattle.tm_outcomes.specs.Nodes.{HasGrown, IsEnd, IsExplored, IsFollowed, IsPickOf, IsShown, IsStep, IsTree}
+use Rattle.tm_outcomes.specs.Nodes.{schedule_at}
 use Rattle.tm_outcomes.specs.Outcomes.{AreDistinct, AreUsual, IsAllowed, IsTold, trial_opening, trial_setting}
 use Rattle.tm_outcomes.specs.Places.{IsAt}
 use Rattle.tm_outcomes.specs.Schedules.{HasEnded, Situation, after_schedule}

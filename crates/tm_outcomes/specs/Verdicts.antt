@@ -11,7 +11,8 @@ use Rattle.tm_model.specs.State.{Core, Halted, State}
 use Rattle.tm_model.specs.declared.outcome.Pick.{Pick}
 use Rattle.tm_rule.specs.declared.kinds.Stop.{Stop}
 use Rattle.tm_outcomes.specs.Marks.{unmarked}
-use Rattle.tm_outcomes.specs.Outcomes.{AreAllowed, AreUsual, IsAllowed, IsSparing, regs_of, trial_opening, trial_setting}
+use Rattle.tm_outcomes.specs.Outcomes.{AreAllowed, AreUsual, IsAllowed, IsSparing, regs_of, trial_opening}
+use Rattle.tm_outcomes.specs.Outcomes.{trial_setting}
 use Rattle.tm_outcomes.specs.Schedules.{HasEnded, Situation, after_schedule}
 use Rattle.tm_outcomes.specs.Unseen.{LeadUnseen}
 use Rattle.tm_outcomes.specs.declared.searching.Search.{Search}

@@ -83,8 +83,8 @@ impl Bench {
         Ok(())
     }
 
-    /// Brings the state that goes on to the node at which that of a node stands: by a copy, which costs a small part of what
-    /// a run of the node's schedule does.
+    /// Brings the state that goes on to the node at which that of a node stands: by a copy, which costs a small part of
+    /// what a run of the node's schedule does.
     pub fn set_out(
         &mut self,
         alloc: Global,

@@ -1,7 +1,7 @@
 //! The strongly connected components of a search's states: those from each of which links lead to each.
 //!
-//! By Tarjan's algorithm in the form of D. J. Pearce, with one number for each state, and with a list of the states that are
-//! gone through in place of a recursion.
+//! By Tarjan's algorithm in the form of D. J. Pearce, with one number for each state, and with a list of the states
+//! that are gone through in place of a recursion.
 
 use crate::graph::Graph;
 use std::alloc::{AllocError, Global};
@@ -9,7 +9,8 @@ use std::alloc::{AllocError, Global};
 /// The number of a state that is left out.
 const LEFT_OUT: u32 = u32::MAX;
 
-/// A state that is gone through: the link that is next, the one behind its last, and whether no state before it was met.
+/// A state that is gone through: the link that is next, the one behind its last, and whether no state before it was
+/// met.
 #[derive(Clone, Copy)]
 struct Visit {
     state: u32,
@@ -21,8 +22,8 @@ struct Visit {
 /// The components, and the states of those that are fair, in which each core has a link.
 #[derive(Drop)]
 pub struct Components {
-    // Of each state 0 where it was not met; while its component is open, a number that is the lower the earlier one of its states
-    // was met; then that of its component, which is above these.
+    // Of each state 0 where it was not met; while its component is open, a number that is the lower the earlier one of
+    // its states was met; then that of its component, which is above these.
     numbers: Vec<u32>,
     // The states that are gone through, each met from the one before.
     visits: Vec<Visit>,
@@ -200,7 +201,8 @@ fn set_numbers(numbers: &mut Vec<u32>, states: &[u32], number: u32) {
     }
 }
 
-// How many of those that wait belong to states that were met before this one: all but the last whose numbers are not below its.
+// How many of those that wait belong to states that were met before this one: all but the last whose numbers are not
+// below its.
 fn count_before(numbers: &[u32], waiting: &[u32], state: u32) -> usize {
     let least = number_at(numbers, state);
     let mut left = waiting;

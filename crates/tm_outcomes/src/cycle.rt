@@ -1,9 +1,10 @@
 //! A cycle that can be made for ever.
 //!
 //! Its steps come under no event where events may come but need not: they come from outside, and none comes for ever.
-//! Which states lie on such cycles is found in the links of the search, of which nothing is promised. What is told of them
-//! is made once: a schedule, and behind it the steps of the cycle, one of each core that has not stopped among them, which
-//! lead back to a state that is shown alike. So what is told is so; that no other is left out is not promised.
+//! Which states lie on such cycles is found in the links of the search, of which nothing is promised. What is told of
+//! them is made once: a schedule, and behind it the steps of the cycle, one of each core that has not stopped among
+//! them, which lead back to a state that is shown alike. So what is told is so; that no other is left out is not
+//! promised.
 
 ghost use Rattle.std.specs.Prelude.{◌≡◌, ◌<◌, ◌++◌, ◌^◌, ℕ, All, IfErr, IfOk, IfSome, IsTrue, List, false, length};
 ghost use Rattle.tm_core.specs.Theorem.{StandsFor, view_at};
@@ -27,15 +28,17 @@ use crate::written::Written;
 use std::alloc::{AllocError, Global};
 use tm_model::Pick;
 
-/// States from which an end can be reached, but from which all cores that have not stopped can also go on for ever, each
-/// of them again and again.
+/// States from which an end can be reached, but from which all cores that have not stopped can also go on for ever,
+/// each of them again and again.
 #[derive(Debug, Drop)]
 pub struct Cycle {
     /// How many such states were found, 1 or more.
     pub states: u32,
-    /// The steps of a schedule that leads to one: of those that were found, one with the fewest steps that are followed.
+    /// The steps of a schedule that leads to one: of those that were found, one with the fewest steps that are
+    /// followed.
     pub schedule: Vec<Pick>,
-    /// Steps that lead from there back to a state that is shown alike, one of each core that has not stopped among them.
+    /// Steps that lead from there back to a state that is shown alike, one of each core that has not stopped among
+    /// them.
     pub steps: Vec<Pick>,
 }
 

@@ -6,8 +6,8 @@
 use crate::links::Link;
 use std::alloc::{AllocError, Global};
 
-/// The links of a search that is over: they stand in the order of the states from which they lead, and each state has one.
-/// Nothing is promised of what is found in it: a cycle is told where its steps were made.
+/// The links of a search that is over: they stand in the order of the states from which they lead, and each state has
+/// one. Nothing is promised of what is found in it: a cycle is told where its steps were made.
 #[derive(Drop)]
 pub struct Graph<'a> {
     /// The links.
@@ -70,7 +70,8 @@ impl<'a> Graph<'a> {
         }
     }
 
-    // Whether a link is a step under an event that need not come: such links stand behind that of the same step under none.
+    // Whether a link is a step under an event that need not come: such links stand behind that of the same step under
+    // none.
     fn is_forced(&self, index: usize) -> bool {
         let (Some(link), Some(before)) = (
             self.links.get(index),

@@ -5,13 +5,13 @@
 //! is told is that of the schedule beside it, run from the program's opening state, and none is told twice; and where
 //! the search is not cut at its limit on states, no schedule of any length has another. It also tells a schedule
 //! behind which none leads on to an end, one to each stop that is looked for, and one to an end that violates each
-//! check; where it is not cut and tells none, there is none. Of states that can end but need not, it tells a schedule to
-//! one, and steps of all cores that go on, which lead back there; that there is none where it tells none is not promised.
-//! No step of a schedule that is told comes under an event that need not come and aborts nothing. The states that it
-//! counts are those of a list of schedules, no two of which lead to what is shown alike; where it is not cut, the list
-//! has each state, and those without a way to an end are counted among them. How many states show an outcome or need not
-//! end is compared by `doc_tests`. The words for it stand in `specs/Schedules.antt`, `specs/Outcomes.antt` and
-//! `specs/Verdicts.antt`, over the machine's definitions in `tm_model` alone.
+//! check; where it is not cut and tells none, there is none. Of states that can end but need not, it tells a schedule
+//! to one, and steps of all cores that go on, which lead back there; that there is none where it tells none is not
+//! promised. No step of a schedule that is told comes under an event that need not come and aborts nothing. The states
+//! that it counts are those of a list of schedules, no two of which lead to what is shown alike; where it is not cut,
+//! the list has each state, and those without a way to an end are counted among them. How many states show an outcome
+//! or need not end is compared by `doc_tests`. The words for it stand in `specs/Schedules.antt`, `specs/Outcomes.antt`
+//! and `specs/Verdicts.antt`, over the machine's definitions in `tm_model` alone.
 //!
 //! Two states count as one where memory and what is shown of each core are the same: the machine's steps are a
 //! function of these. Behind each step that is followed, the steps of all cores are made at once that no other core

@@ -28,7 +28,8 @@ pub struct Sources {
 }
 
 impl Sources {
-    /// The links that lead to each of so many nodes. More than 32 bits count, at 8 bytes each, are refused as memory is.
+    /// The links that lead to each of so many nodes. More than 32 bits count, at 8 bytes each, are refused as memory
+    /// is.
     pub fn of(alloc: Global, links: &[Link], nodes: usize) -> Result<Sources, AllocError>
         requires { All (LiesWithin nodes) links.now }
         ensures { IfOk result (AreSources links.now nodes) }

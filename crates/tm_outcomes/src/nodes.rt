@@ -36,7 +36,8 @@ pub struct Node {
 pub fn schedule_of(alloc: Global, nodes: &[Node], index: usize) -> Result<Vec<Pick>, AllocError>
     requires within { index < length nodes.now }
     requires tree { (trial : Trial) × HaveSchedules trial nodes.now }
-    ensures { IfOk result (λ schedule. (trial : Trial) (schedules : List (List Pick)) → IsTree trial nodes.now schedules →
+    ensures { IfOk result
+        (λ schedule. (trial : Trial) (schedules : List (List Pick)) → IsTree trial nodes.now schedules →
         schedule.items ≡ schedule_at schedules index) }
 {
     let mut picks = Vec::new(alloc);
@@ -67,7 +68,8 @@ fn way_of(alloc: Global, nodes: &[Node], index: usize) -> Result<Vec<u32>, Alloc
     requires within { index < length nodes.now }
     requires few { length nodes.now < 2 ^ 32 }
     requires tree { (trial : Trial) × HaveSchedules trial nodes.now }
-    ensures steps { IfOk result (λ way. (trial : Trial) (schedules : List (List Pick)) → IsTree trial nodes.now schedules →
+    ensures steps { IfOk result
+        (λ way. (trial : Trial) (schedules : List (List Pick)) → IsTree trial nodes.now schedules →
         steps_along nodes.now way.items ≡ schedule_at schedules index) }
     ensures nodes { IfOk result (λ way. All (IsOnWay (length nodes.now)) way.items) }
 {

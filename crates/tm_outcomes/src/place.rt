@@ -4,7 +4,8 @@
 //! core stopped and what a transaction has touched and stored. Memory is looked at on the lines alone that steps
 //! store to (`written`). Schedules are made by `replay`, unseen steps by `rest`.
 
-ghost use Rattle.std.specs.Prelude.{◌≡◌, ◌↔◌, ◌+◌, ◌*◌, ◌^◌, ◌<◌, ◌++◌, ◌∷◌, [], List, IfErr, IfOk, IsOk, IsTrue, false, length, map};
+ghost use Rattle.std.specs.Prelude.{◌≡◌, ◌↔◌, ◌+◌, ◌*◌, ◌^◌, ◌<◌, ◌++◌, ◌∷◌, [], List, IfErr, IfOk, IsOk, IsTrue};
+ghost use Rattle.std.specs.Prelude.{false, length, map};
 ghost use Rattle.tm_core.specs.Reopening.{IsSameElsewhere};
 ghost use Rattle.tm_core.specs.Theorem.{SameMachine, StandsFor, TakesStepUnder, view_at};
 ghost use Rattle.tm_model.specs.Conflicts.{Doomed};
@@ -96,8 +97,8 @@ impl Place {
 }
 
 impl Place {
-    /// Becomes as another place is, where both machines are of one size; else it stays, and the answer is false. Both have
-    /// memory as it was before the first step but on the lines that were noted.
+    /// Becomes as another place is, where both machines are of one size; else it stays, and the answer is false. Both
+    /// have memory as it was before the first step but on the lines that were noted.
     pub fn copy(&mut self, other: &Place, written: &Written) -> bool
         requires same { SameMachine self.old.machine other.now.machine }
         requires memory { IsSameElsewhere written.now.lines.items self.old.machine.memory written.now.opening.items }
@@ -236,8 +237,8 @@ impl Place {
         Ok(values)
     }
 
-    /// A number that is the same for places of a trial that are alike: of each line that steps store to the bytes, where
-    /// they are not what they were before the first step, and of each core what it does and its registers.
+    /// A number that is the same for places of a trial that are alike: of each line that steps store to the bytes,
+    /// where they are not what they were before the first step, and of each core what it does and its registers.
     pub fn digest(&self, written: &Written) -> u64
         ensures { result ≡ digest_by written.now self.now }
     {
@@ -266,8 +267,8 @@ impl Place {
         }
     }
 
-    // Adds what a core does and its registers, and between two steps the value that the first has loaded: in a transaction
-    // the registers before it, and where it is not doomed those now.
+    // Adds what a core does and its registers, and between two steps the value that the first has loaded: in a
+    // transaction the registers before it, and where it is not doomed those now.
     fn digest_core(&self, core: u8, digest: &mut Digest)
         requires { core < length self.now.machine.views }
         ensures { digest.new.value ≡ mixed_core digest.old.value (view_at self.now.machine core) }

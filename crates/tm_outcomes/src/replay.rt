@@ -118,7 +118,8 @@ impl Place {
         ahead
     }
 
-    /// The end of the schedule of a node, from before the first step on: by the nodes on the way there, the last one first.
+    /// The end of the schedule of a node, from before the first step on: by the nodes on the way there, the last one
+    /// first.
     pub fn replay(&mut self, trial: &Trial<'_>, written: &Written, nodes: &[Node], way: &[u32])
         requires tree { HaveSchedules trial.now nodes.now }
         requires way { All (IsOnWay (length nodes.now)) way.now }

@@ -5,7 +5,8 @@
 //! and the state there is looked for among those of its digest before it counts as new. A new one above the limit
 //! cuts the search; otherwise its links are judged (`verdict`).
 
-ghost use Rattle.std.specs.Prelude.{◌≡◌, ◌<◌, ◌≤◌, ◌+◌, ◌++◌, ◌∷◌, ◌^◌, [], ℕ, All, IfErr, IfOk, List, OnOk, false, length};
+ghost use Rattle.std.specs.Prelude.{◌≡◌, ◌<◌, ◌≤◌, ◌+◌, ◌++◌, ◌∷◌, ◌^◌, [], ℕ, All, IfErr, IfOk, List, OnOk, false};
+ghost use Rattle.std.specs.Prelude.{length};
 ghost use Rattle.std.specs.HashMap.{Updates};
 ghost use Rattle.std.specs.Prelude.{None, Option, Some, nat_eq, true};
 ghost use Rattle.tm_model.specs.declared.outcome.Event.{Event};
@@ -16,7 +17,8 @@ ghost use Rattle.tm_outcomes.specs.Nodes.{HaveSchedules, IsNeededBehind, IsOpenB
 ghost use Rattle.tm_outcomes.specs.Nodes.{schedule_at};
 ghost use Rattle.tm_outcomes.specs.Outcomes.{AreThere, IsAllowed, IsNoneOrOneOf, IsRefusal, IsSearch, usual_event};
 ghost use Rattle.tm_outcomes.specs.Places.{IsAt};
-ghost use Rattle.tm_outcomes.specs.Searching.{AreFindings, HaveDone, IsCutOf, IsFollowedIn, IsOneOf, IsOver, IsThis, IsWholeOf};
+ghost use Rattle.tm_outcomes.specs.Searching.{AreFindings, HaveDone, IsCutOf, IsFollowedIn, IsOneOf, IsOver, IsThis};
+ghost use Rattle.tm_outcomes.specs.Searching.{IsWholeOf};
 ghost use Rattle.tm_outcomes.specs.Verdicts.{IsVerdict};
 ghost use Rattle.tm_outcomes.specs.Written.{IsBenchOf, IsPlaceIn};
 ghost use Rattle.tm_outcomes.specs.declared.links.Link.{Link};
@@ -53,7 +55,8 @@ pub struct Search {
     pub is_cut: bool,
     /// The states from which no schedule leads to an end, where there are such. None is told of a search that was cut.
     pub stuck: Option<Stuck>,
-    /// A cycle that can be made for ever though it need not, where one was found. None is told of a search that was cut.
+    /// A cycle that can be made for ever though it need not, where one was found. None is told of a search that was
+    /// cut.
     pub cycle: Option<Cycle>,
     /// The stops that were looked for and found, in the order in which they were.
     pub stops: Vec<ReachedStop>,
@@ -88,7 +91,8 @@ pub enum Progress {
 pub struct Followed {
     /// Whether the search goes on.
     pub progress: Progress,
-    /// Whether the core was in a transaction that was not doomed. Where it was not, its step is the same under each event.
+    /// Whether the core was in a transaction that was not doomed. Where it was not, its step is the same under each
+    /// event.
     pub was_open: bool,
 }
 
@@ -174,7 +178,8 @@ impl Searching {
         ensures untouched { IfOk result (λ r. r.was_open ≡ false → (schedules : List (List Pick)) →
             IsTree trial.now self.old.nodes.items schedules → IsUntouched trial.now schedules index pick.core) }
         ensures opened { IfOk result (λ r. r.was_open ≡ true → (schedules : List (List Pick)) →
-            IsTree trial.now self.old.nodes.items schedules → IsOpenBehind trial.now (schedule_at schedules index) pick.core) }
+            IsTree trial.now self.old.nodes.items schedules
+            → IsOpenBehind trial.now (schedule_at schedules index) pick.core) }
         ensures cut { IfOk result (λ r. r.progress ≡ Progress.IsCut → length self.new.nodes.items ≡ most) }
         ensures bench { OnOk result (IsBenchOf trial.now self.new.nodes.items bench.new) }
         ensures kept { OnOk result (AreKept trial.now self.new bench.new.noted) }
@@ -219,7 +224,8 @@ impl Searching {
         ensures untouched { IfOk result (λ r. r.was_open ≡ false → (schedules : List (List Pick)) →
             IsTree trial.now self.old.nodes.items schedules → IsUntouched trial.now schedules index pick.core) }
         ensures opened { IfOk result (λ r. r.was_open ≡ true → (schedules : List (List Pick)) →
-            IsTree trial.now self.old.nodes.items schedules → IsOpenBehind trial.now (schedule_at schedules index) pick.core) }
+            IsTree trial.now self.old.nodes.items schedules
+            → IsOpenBehind trial.now (schedule_at schedules index) pick.core) }
         ensures cut { IfOk result (λ r. r.progress ≡ Progress.IsCut → length self.new.nodes.items ≡ most) }
         ensures bench { OnOk result (IsBenchOf trial.now self.new.nodes.items bench.new) }
         ensures kept { OnOk result (AreKept trial.now self.new bench.new.noted) }
@@ -528,7 +534,8 @@ fn explore<W: Watching>(
     requires begins { IsAt trial.now bench.old.here [] }
     requires there { AreThere trial.now }
     requires some { 1 ≤ most }
-    ensures whole { IfOk result (λ explored. explored.progress ≡ Progress.GoesOn → IsOver trial.now most explored.search) }
+    ensures whole { IfOk result
+        (λ explored. explored.progress ≡ Progress.GoesOn → IsOver trial.now most explored.search) }
     ensures cut { IfOk result (λ explored. explored.progress ≡ Progress.IsCut →
         (length explored.search.nodes.items ≡ most) × AreFindings trial.now explored.search.found) }
     ensures bench { IfOk result (λ explored. IsBenchOf trial.now explored.search.nodes.items bench.new) }
@@ -560,7 +567,8 @@ fn explore<W: Watching>(
 }
 
 /// Searches all schedules whose steps come under what the trial says, breadth first, each state once, up to a limit on
-/// states: 1 or more. Of a search that is not cut it is also known which states have no way to an end, and a cycle may be told.
+/// states: 1 or more. Of a search that is not cut it is also known which states have no way to an end, and a cycle may
+/// be told.
 pub fn outcomes(alloc: Global, trial: &Trial<'_>, most: u32) -> Result<Search, SearchFault>
     requires there { AreThere trial.now }
     requires some { 1 ≤ most }

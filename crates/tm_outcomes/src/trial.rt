@@ -32,8 +32,8 @@ pub enum Events<'a> {
     Always(Event),
 }
 
-/// A program, what its steps come under, what is shown of it and checked where each core has stopped, and which stops are
-/// looked for.
+/// A program, what its steps come under, what is shown of it and checked where each core has stopped, and which stops
+/// are looked for.
 #[derive(Clone, Copy)]
 pub struct Trial<'a> {
     /// The program.

@@ -19,8 +19,8 @@ use tm_core::{Machine, opening_memory};
 use tm_model::CoreState;
 use tm_sets::Kind;
 
-/// Memory before the first step, and the lines of 64 bytes that steps of a search store to. Outside of these lines memory
-/// is at each state of the search what it was before the first step.
+/// Memory before the first step, and the lines of 64 bytes that steps of a search store to. Outside of these lines
+/// memory is at each state of the search what it was before the first step.
 #[derive(Drop)]
 pub struct Written {
     /// Memory before the first step.

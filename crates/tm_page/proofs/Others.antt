@@ -1,5 +1,6 @@
 -- What the page makes of a core that another one's step hits, or does not.
-use Rattle.std.proofs.Common.{◌≡◌, ℕ, ◌<◌, Bool, true, false, cond, eqb, List, length, Option, Some, None, refl, sym, ap, ◌∙◌, subst}
+use Rattle.std.proofs.Common.{◌≡◌, ℕ, ◌<◌, Bool, true, false, cond, eqb, List, length, Option, Some, None, refl, sym}
+use Rattle.std.proofs.Common.{ap, ◌∙◌, subst}
 use Rattle.std.specs.Prelude.{IsSome, MatchOption, option_and_then}
 use Rattle.std.proofs.lemmas.Option.{option_and_then_some, same_Some}
 use Rattle.tm_model.specs.Access.{Stores, memory_after, stored_addresses}
@@ -26,15 +27,20 @@ module _ (k : Setting) (m : List ℕ) (loads : List ℕ) (ws : Stores) where
 
   -- ---- one that is not hit
 
-  body_stays : (s : Regs) (n : ℕ) (b : Body) → isolated_body k s m n ≡ Some b → depth_at_hit loads (stored_addresses ws) (isolated_body k s m n) ≡ None →
+  body_stays : (s : Regs) (n : ℕ) (b : Body) → isolated_body k s m n ≡ Some b
+      → depth_at_hit loads (stored_addresses ws) (isolated_body k s m n) ≡ None →
       isolated_body k s after n ≡ Some b
-  body_stays s n b is h = on (is_hit loads (stored_addresses ws) b) refl (sym (ap (depth_at_hit loads (stored_addresses ws)) is) ∙ h)
+  body_stays s n b is h =
+      on (is_hit loads (stored_addresses ws) b) refl (sym (ap (depth_at_hit loads (stored_addresses ws)) is) ∙ h)
     where
-      on : (t : Bool) → is_hit loads (stored_addresses ws) b ≡ t → cond t (Some b.depth) None ≡ None → isolated_body k s after n ≡ Some b
+      on : (t : Bool) → is_hit loads (stored_addresses ws) b ≡ t → cond t (Some b.depth) None ≡ None
+          → isolated_body k s after n ≡ Some b
       on true hit e = cc
-      on false missed e = frame k s m after n b (sym (length-memory_after m ws)) (not_hit m (read_set b) b.loads ws (lines_on b.loads) (stores_missed loads (stored_addresses ws) b missed)) is
+      on false missed e = frame k s m after n b (sym (length-memory_after m ws))
+          (not_hit m (read_set b) b.loads ws (lines_on b.loads) (stores_missed loads (stored_addresses ws) b missed)) is
 
-  pub stays : (y : Core) (dy : Option ℕ) (v w : View) → view_of k m y dy ≡ Some v → view_of k after y (doom_of y dy) ≡ Some w → doom_of y dy ≡ dy → w ≡ v
+  pub stays : (y : Core) (dy : Option ℕ) (v w : View) → view_of k m y dy ≡ Some v
+      → view_of k after y (doom_of y dy) ≡ Some w → doom_of y dy ≡ dy → w ≡ v
   stays (Closed s) None v w e f h = same_Some w v (sym f ∙ e)
   stays (Closed s) (Some depth) v w e f h = cc
   stays (Midway s value) None v w e f h = same_Some w v (sym f ∙ e)
@@ -44,7 +50,9 @@ module _ (k : Setting) (m : List ℕ) (loads : List ℕ) (ws : Stores) where
   stays (Opened s n) (Some depth) v w e f h = same_Some w v (sym f ∙ e)
   stays (Opened s n) None v w e f h =
       option_and_then_some (view_inside s) (isolated_body k s m n) v e (λ b is shown.
-      same_Some w v (sym f ∙ ap (view_of k after (Opened s n)) h ∙ ap (option_and_then (view_inside s)) (body_stays s n b is h) ∙ shown))
+      same_Some w v
+      (sym f ∙ ap (view_of k after (Opened s n)) h
+      ∙ ap (option_and_then (view_inside s)) (body_stays s n b is h) ∙ shown))
 
   -- ---- one that is
 
@@ -57,12 +65,14 @@ module _ (k : Setting) (m : List ℕ) (loads : List ℕ) (ws : Stores) where
 
   struck : (s : Regs) (n : ℕ) (b : Body) (v w : View) → view_of_body s b ≡ v → isolated_body k s m n ≡ Some b →
       IsSome (depth_at_hit loads (stored_addresses ws) (isolated_body k s m n)) →
-      view_of k after (Opened s n) (depth_at_hit loads (stored_addresses ws) (isolated_body k s m n)) ≡ Some w → IsCondemned v w
+      view_of k after (Opened s n) (depth_at_hit loads (stored_addresses ws) (isolated_body k s m n)) ≡ Some w
+      → IsCondemned v w
   struck s n b v w shown is h f = on (is_hit loads (stored_addresses ws) b)
       (subst (λ o. IsSome (depth_at_hit loads (stored_addresses ws) o)) is h)
       (subst (λ o. view_of k after (Opened s n) (depth_at_hit loads (stored_addresses ws) o) ≡ Some w) is f)
     where
-      on : (t : Bool) → IsSome (cond t (Some b.depth) None) → view_of k after (Opened s n) (cond t (Some b.depth) None) ≡ Some w → IsCondemned v w
+      on : (t : Bool) → IsSome (cond t (Some b.depth) None)
+          → view_of k after (Opened s n) (cond t (Some b.depth) None) ≡ Some w → IsCondemned v w
       on true some g =
           let same : view_outside (Condemned b.depth) s ≡ w = same_Some (view_outside (Condemned b.depth) s) w g in
           record {
@@ -74,7 +84,8 @@ module _ (k : Setting) (m : List ℕ) (loads : List ℕ) (ws : Stores) where
           }
       on false some g = cc
 
-  pub condemns : (y : Core) (dy : Option ℕ) (v w : View) → view_of k m y dy ≡ Some v → view_of k after y (doom_of y dy) ≡ Some w → dy ≡ None → IsSome (doom_of y dy) →
+  pub condemns : (y : Core) (dy : Option ℕ) (v w : View) → view_of k m y dy ≡ Some v
+      → view_of k after y (doom_of y dy) ≡ Some w → dy ≡ None → IsSome (doom_of y dy) →
       IsCondemned v w
   condemns (Closed s) None v w e f none some = cc
   condemns (Closed s) (Some depth) v w e f none some = cc
@@ -95,12 +106,14 @@ module _ (k : Setting) (m : List ℕ) (loads : List ℕ) (ws : Stores) where
   abbrev pub Fares : Option Hit → View → View → Type 0
   Fares told v w = MatchOption told (w ≡ v) (λ hit. IsCondemned v w)
 
-  pub fares : (told : Option Hit) (y : Core) (dy : Option ℕ) (v w : View) → view_of k m y dy ≡ Some v → view_of k after y (doom_of y dy) ≡ Some w →
+  pub fares : (told : Option Hit) (y : Core) (dy : Option ℕ) (v w : View) → view_of k m y dy ≡ Some v
+      → view_of k after y (doom_of y dy) ≡ Some w →
       Tells told dy (doom_of y dy) → Fares told v w
   fares None y dy v w e f h = stays y dy v w e f h
   fares (Some hit) y dy v w e f h = condemns y dy v w e f h.0 h.1
 
-  pub other : (size : ℕ) (told : Option Hit) (core : PageCore) (v w : View) → Fares told v w → ShowsCore size v core → ShowsCore size w (other_after told core)
+  pub other : (size : ℕ) (told : Option Hit) (core : PageCore) (v w : View) → Fares told v w → ShowsCore size v core
+      → ShowsCore size w (other_after told core)
   other size None core v w h shows = subst (λ x. ShowsCore size x core) (sym h) shows
   other size (Some hit) core v w h shows =
       shows_outside size w (condemned core.mode) core.base h.outside

@@ -1,5 +1,6 @@
 -- What the page makes of the core that steps.
-use Rattle.std.proofs.Common.{◌≡◌, ℕ, zero, suc, ◌+◌, ◌-◌, ◌<◌, ◌%◌, Bool, true, false, cond, eqb, ◌||◌, ◌&&◌, not, List, [], ◌∷◌, ◌++◌, Option, Some, None, refl, sym, ap, ◌∙◌, subst}
+use Rattle.std.proofs.Common.{◌≡◌, ℕ, zero, suc, ◌+◌, ◌-◌, ◌<◌, ◌%◌, Bool, true, false, cond, eqb, ◌||◌, ◌&&◌, not}
+use Rattle.std.proofs.Common.{List, [], ◌∷◌, ◌++◌, Option, Some, None, refl, sym, ap, ◌∙◌, subst}
 use Rattle.std.specs.Prelude.{option_and_then, option_map, slice_index, unwrap_or}
 use Rattle.std.proofs.lemmas.Option.{option_and_then_some, same_Some}
 use Rattle.std.specs.Option.{option_or}
@@ -10,9 +11,11 @@ use Rattle.tm_model.specs.Access.{Stores, lines_of, stored_addresses, stores_of}
 use Rattle.tm_model.specs.Explained.{addresses_stored_next}
 use Rattle.tm_model.specs.Isolated.{Body, first_body, instruction_after, isolated_body, longer_body, next_body}
 use Rattle.tm_model.specs.Setting.{Setting, outside_at}
-use Rattle.tm_model.specs.Shown.{View, buffer_of, view_between, view_inside, view_midway, view_of, view_of_body, view_outside}
+use Rattle.tm_model.specs.Shown.{View, buffer_of, view_between, view_inside, view_midway, view_of, view_of_body}
+use Rattle.tm_model.specs.Shown.{view_outside}
 use Rattle.tm_model.specs.State.{Closed, Core, Halted, Midway, Opened}
-use Rattle.tm_core.specs.Types.{AtStop, Begins, Condemned, CoreState, Ends, Fails, Goes, GoesOn, InsideResult, Mid, Nests, OutsideResult, Regs, Running, Stop, Stops}
+use Rattle.tm_core.specs.Types.{AtStop, Begins, Condemned, CoreState, Ends, Fails, Goes, GoesOn, InsideResult, Mid}
+use Rattle.tm_core.specs.Types.{Nests, OutsideResult, Regs, Running, Stop, Stops}
 use Rattle.tm_core.proofs.Frame.{longer_body-next_body}
 use Rattle.tm_core.proofs.OtherCores.{view_inside_is}
 use Rattle.tm_page.proofs.Parts.{append-stored, apart, first_joined, grown, has_byte, joined}
@@ -29,26 +32,32 @@ pub record IsOutside (view : View) : Type 0 where
   pub buffer : view.buffer ≡ map_of.empty
 
 plain : (mode : CoreState) (s : Regs) (v : View) → Some (view_outside mode s) ≡ Some v → IsOutside v
-plain mode s v e = subst IsOutside (same_Some (view_outside mode s) v e) (record { base = refl; reads = refl; writes = refl; buffer = refl })
+plain mode s v e = subst IsOutside (same_Some (view_outside mode s) v e)
+    (record { base = refl; reads = refl; writes = refl; buffer = refl })
 
 midway : (s : Regs) (value : ℕ) (o : OutsideResult) (v : View) → view_midway s value o ≡ Some v → IsOutside v
-midway s value (Goes t w) v e = subst IsOutside (same_Some (view_between s value) v e) (record { base = refl; reads = refl; writes = refl; buffer = refl })
+midway s value (Goes t w) v e = subst IsOutside (same_Some (view_between s value) v e)
+    (record { base = refl; reads = refl; writes = refl; buffer = refl })
 midway s value (Begins t) v e = cc
 midway s value (Stops x) v e = cc
 
-pub outside_closed : (k : Setting) (m : List ℕ) (s : Regs) (doom : Option ℕ) (v : View) → view_of k m (Closed s) doom ≡ Some v → IsOutside v
+pub outside_closed : (k : Setting) (m : List ℕ) (s : Regs) (doom : Option ℕ) (v : View)
+    → view_of k m (Closed s) doom ≡ Some v → IsOutside v
 outside_closed k m s None v e = plain Running s v e
 outside_closed k m s (Some depth) v e = cc
 
-pub outside_midway : (k : Setting) (m : List ℕ) (s : Regs) (value : ℕ) (doom : Option ℕ) (v : View) → view_of k m (Midway s value) doom ≡ Some v → IsOutside v
+pub outside_midway : (k : Setting) (m : List ℕ) (s : Regs) (value : ℕ) (doom : Option ℕ) (v : View)
+    → view_of k m (Midway s value) doom ≡ Some v → IsOutside v
 outside_midway k m s value None v e = midway s value (k.outside s value) v e
 outside_midway k m s value (Some depth) v e = cc
 
-pub outside_halted : (k : Setting) (m : List ℕ) (s : Regs) (stop : Stop) (doom : Option ℕ) (v : View) → view_of k m (Halted s stop) doom ≡ Some v → IsOutside v
+pub outside_halted : (k : Setting) (m : List ℕ) (s : Regs) (stop : Stop) (doom : Option ℕ) (v : View)
+    → view_of k m (Halted s stop) doom ≡ Some v → IsOutside v
 outside_halted k m s stop None v e = plain (AtStop stop) s v e
 outside_halted k m s stop (Some depth) v e = cc
 
-pub shows_outside : (size : ℕ) (v : View) (mode : CoreState) (regs : Regs) → IsOutside v → mode ≡ v.mode → regs ≡ v.regs →
+pub shows_outside : (size : ℕ) (v : View) (mode : CoreState) (regs : Regs) → IsOutside v → mode ≡ v.mode
+    → regs ≡ v.regs →
     ShowsCore size v (core_outside mode regs)
 shows_outside size v mode regs h same_mode same_regs = record {
   mode = sym same_mode;
@@ -56,7 +65,8 @@ shows_outside size v mode regs h same_mode same_regs = record {
   regs = sym same_regs;
   reads = λ q. ap (λ ls. set.contains ls q) h.reads ∙ set.contains-empty nat_cmp q;
   writes = λ q. ap (λ ls. set.contains ls q) h.writes ∙ set.contains-empty nat_cmp q;
-  private = λ a below. ap (λ b. option_map (λ x. x % 256) (map_of.get b a)) h.buffer ∙ ap (option_map (λ x. x % 256)) (map_of.get-empty nat_cmp a);
+  private = λ a below. ap (λ b. option_map (λ x. x % 256) (map_of.get b a)) h.buffer
+      ∙ ap (option_map (λ x. x % 256)) (map_of.get-empty nat_cmp a);
 }
 
 -- ---- behind XBEGIN
@@ -65,8 +75,11 @@ pub record IsBegun (s : Regs) (view : View) : Type 0 where
   pub base : view.base ≡ s
   pub buffer : view.buffer ≡ map_of.empty
 
-pub begun : (s : Regs) (loads : List ℕ) (o : OutsideResult) (v : View) → option_and_then (view_inside s) (first_body loads o) ≡ Some v → IsBegun s v
-begun s loads (Begins t) v e = subst (IsBegun s) (same_Some (view_of_body s (record { regs = t; depth = 1; stores = []; loads = loads })) v e) (record { base = refl; buffer = refl })
+pub begun : (s : Regs) (loads : List ℕ) (o : OutsideResult) (v : View)
+    → option_and_then (view_inside s) (first_body loads o) ≡ Some v → IsBegun s v
+begun s loads (Begins t) v e =
+    subst (IsBegun s) (same_Some (view_of_body s (record { regs = t; depth = 1; stores = []; loads = loads })) v e)
+    (record { base = refl; buffer = refl })
 begun s loads (Goes t w) v e = cc
 begun s loads (Stops x) v e = cc
 
@@ -95,12 +108,19 @@ pub record Adds (b : Body) (loads : List ℕ) (o : InsideResult) (b2 : Body) : T
   pub now_stores : b2.stores ≡ stores ++ b.stores
 
 adds : (b : Body) (loads : List ℕ) (o : InsideResult) (b2 : Body) → next_body b loads o ≡ Some b2 → Adds b loads o b2
-adds b loads (GoesOn t w) b2 e = subst (Adds b loads (GoesOn t w)) (same_Some (record { regs = t; depth = b.depth; stores = stores_of w ++ b.stores; loads = loads ++ b.loads }) b2 e) (record { stores = stores_of w; stored = refl; now_loads = refl; now_stores = refl })
-adds b loads (Nests t) b2 e = subst (Adds b loads (Nests t)) (same_Some (record { regs = t; depth = b.depth + 1; stores = b.stores; loads = loads ++ b.loads }) b2 e) (record { stores = []; stored = refl; now_loads = refl; now_stores = refl })
-adds b loads (Ends t) b2 e = subst (Adds b loads (Ends t)) (same_Some (record { regs = t; depth = b.depth - 1; stores = b.stores; loads = loads ++ b.loads }) b2 e) (record { stores = []; stored = refl; now_loads = refl; now_stores = refl })
+adds b loads (GoesOn t w) b2 e = subst (Adds b loads (GoesOn t w))
+    (same_Some (record { regs = t; depth = b.depth; stores = stores_of w ++ b.stores; loads = loads ++ b.loads }) b2 e)
+    (record { stores = stores_of w; stored = refl; now_loads = refl; now_stores = refl })
+adds b loads (Nests t) b2 e = subst (Adds b loads (Nests t))
+    (same_Some (record { regs = t; depth = b.depth + 1; stores = b.stores; loads = loads ++ b.loads }) b2 e)
+    (record { stores = []; stored = refl; now_loads = refl; now_stores = refl })
+adds b loads (Ends t) b2 e = subst (Adds b loads (Ends t))
+    (same_Some (record { regs = t; depth = b.depth - 1; stores = b.stores; loads = loads ++ b.loads }) b2 e)
+    (record { stores = []; stored = refl; now_loads = refl; now_stores = refl })
 adds b loads (Fails cause) b2 e = cc
 
-bodies : (k : Setting) (m : List ℕ) (s : Regs) (steps : ℕ) (b b2 : Body) (v w : View) → isolated_body k s m steps ≡ Some b → view_of_body s b ≡ v → view_of_body s b2 ≡ w →
+bodies : (k : Setting) (m : List ℕ) (s : Regs) (steps : ℕ) (b b2 : Body) (v w : View)
+    → isolated_body k s m steps ≡ Some b → view_of_body s b ≡ v → view_of_body s b2 ≡ w →
     Adds b (k.load_of b.regs) (instruction_after k m b) b2 → IsGrown k m s steps v w
 bodies k m s steps b b2 v w is e e2 h = record {
   body = b;
@@ -112,7 +132,8 @@ bodies k m s steps b b2 v w is e e2 h = record {
   before_reads = ap (λ x. x.reads) (sym e);
   after_reads = ap (λ x. x.reads) (sym e2) ∙ ap lines_of h.now_loads;
   before_writes = ap (λ x. x.writes) (sym e);
-  after_writes = ap (λ x. x.writes) (sym e2) ∙ ap (λ x. lines_of (stored_addresses x)) h.now_stores ∙ ap lines_of (append-stored h.stores b.stores);
+  after_writes = ap (λ x. x.writes) (sym e2) ∙ ap (λ x. lines_of (stored_addresses x)) h.now_stores
+      ∙ ap lines_of (append-stored h.stores b.stores);
   before_buffer = ap (λ x. x.buffer) (sym e);
   after_buffer = ap (λ x. x.buffer) (sym e2) ∙ ap buffer_of h.now_stores;
 }
@@ -131,7 +152,9 @@ grows k m s (suc n) v w e e2 =
 -- the private bytes: those of the instruction over those that there were
 pub private_grown : (ws xs : Stores) (a : ℕ) (stored old : Option ℕ) (memory : ℕ) →
     option_map (λ x. x % 256) (map_of.get (buffer_of xs) a) ≡ old →
-    stored ≡ cond (is_listed (stored_addresses ws) a) (Some (unwrap_or (map_of.get (buffer_of (ws ++ xs)) a) memory % 256)) None →
+    stored
+    ≡ cond (is_listed (stored_addresses ws) a)
+    (Some (unwrap_or (map_of.get (buffer_of (ws ++ xs)) a) memory % 256)) None →
     option_map (λ x. x % 256) (map_of.get (buffer_of (ws ++ xs)) a) ≡ option_or stored old
 private_grown ws xs a stored old memory same is = on (is_listed (stored_addresses ws) a) refl is
   where

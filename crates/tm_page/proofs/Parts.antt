@@ -1,5 +1,6 @@
 -- Lists of lines and of bytes.
-use Rattle.std.proofs.Common.{◌≡◌, ℕ, ◌%◌, Bool, true, false, cond, eqb, ◌||◌, ◌&&◌, not, List, [], ◌∷◌, ◌++◌, map, Option, Some, None, refl, sym, ap, ◌∙◌}
+use Rattle.std.proofs.Common.{◌≡◌, ℕ, ◌%◌, Bool, true, false, cond, eqb, ◌||◌, ◌&&◌, not, List, [], ◌∷◌, ◌++◌, map}
+use Rattle.std.proofs.Common.{Option, Some, None, refl, sym, ap, ◌∙◌}
 use Rattle.std.specs.Prelude.{option_map}
 use Rattle.std.specs.List.{list_any}
 use Rattle.std.specs.Option.{option_or}
@@ -44,7 +45,8 @@ pub append-stored : (xs ys : Stores) → stored_addresses (xs ++ ys) ≡ stored_
 append-stored [] ys = refl
 append-stored (x ∷ xs) ys = λ i. x.0 ∷ append-stored xs ys i
 
-apart_at : (t rest : Bool) (x : ℕ) (o p : Option ℕ) → (rest ≡ false → o ≡ p) → (t || rest) ≡ false → cond t (Some x) o ≡ p
+apart_at : (t rest : Bool) (x : ℕ) (o p : Option ℕ) → (rest ≡ false → o ≡ p) → (t || rest) ≡ false
+    → cond t (Some x) o ≡ p
 apart_at true rest x o p h e = cc
 apart_at false rest x o p h e = h e
 
@@ -54,7 +56,8 @@ pub apart : (ws xs : Stores) (a : ℕ) → is_listed (stored_addresses ws) a ≡
 apart [] xs a h = refl
 apart (w ∷ ws) xs a h =
     get-put (buffer_of (ws ++ xs)) w.0 w.1 a
-    ∙ apart_at (eqb a w.0) (is_listed (stored_addresses ws) a) w.1 (map_of.get (buffer_of (ws ++ xs)) a) (map_of.get (buffer_of xs) a) (λ none. apart ws xs a none) h
+    ∙ apart_at (eqb a w.0) (is_listed (stored_addresses ws) a) w.1 (map_of.get (buffer_of (ws ++ xs)) a)
+    (map_of.get (buffer_of xs) a) (λ none. apart ws xs a none) h
 
 found_at : (t rest : Bool) (x : ℕ) (o : Option ℕ) → (rest ≡ true → (byte : ℕ) × (o ≡ Some byte)) → (t || rest) ≡ true →
     (byte : ℕ) × (cond t (Some x) o ≡ Some byte)
@@ -67,10 +70,12 @@ pub has_byte : (ws xs : Stores) (a : ℕ) → is_listed (stored_addresses ws) a 
 has_byte [] xs a h = cc
 has_byte (w ∷ ws) xs a h =
     let found : (byte : ℕ) × (cond (eqb a w.0) (Some w.1) (map_of.get (buffer_of (ws ++ xs)) a) ≡ Some byte) =
-    found_at (eqb a w.0) (is_listed (stored_addresses ws) a) w.1 (map_of.get (buffer_of (ws ++ xs)) a) (λ there. has_byte ws xs a there) h in
+    found_at (eqb a w.0) (is_listed (stored_addresses ws) a) w.1 (map_of.get (buffer_of (ws ++ xs)) a)
+    (λ there. has_byte ws xs a there) h in
     (found.0, get-put (buffer_of (ws ++ xs)) w.0 w.1 a ∙ found.1)
 
-none_at : (t rest : Bool) (x : ℕ) (o : Option ℕ) → (o ≡ None → rest ≡ false) → cond t (Some x) o ≡ None → (t || rest) ≡ false
+none_at : (t rest : Bool) (x : ℕ) (o : Option ℕ) → (o ≡ None → rest ≡ false) → cond t (Some x) o ≡ None
+    → (t || rest) ≡ false
 none_at true rest x o h e = cc
 none_at false rest x o h e = h e
 
@@ -78,5 +83,6 @@ none_at false rest x o h e = h e
 pub no_byte : (ws : Stores) (a : ℕ) → map_of.get (buffer_of ws) a ≡ None → is_listed (stored_addresses ws) a ≡ false
 no_byte [] a h = refl
 no_byte (w ∷ ws) a h =
-    none_at (eqb a w.0) (is_listed (stored_addresses ws) a) w.1 (map_of.get (buffer_of ws) a) (λ none. no_byte ws a none)
+    none_at (eqb a w.0) (is_listed (stored_addresses ws) a) w.1 (map_of.get (buffer_of ws) a)
+    (λ none. no_byte ws a none)
     (sym (get-put (buffer_of ws) w.0 w.1 a) ∙ h)

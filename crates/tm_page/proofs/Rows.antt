@@ -1,5 +1,6 @@
 -- The row of registers that changed.
-use Rattle.std.proofs.Common.{◌≡◌, ℕ, zero, suc, ◌<◌, ◌+◌, List, [], ◌∷◌, length, get_or, set, replicate, Option, None, sym, ap, ◌∙◌, arith, unwrap_or, refl}
+use Rattle.std.proofs.Common.{◌≡◌, ℕ, zero, suc, ◌<◌, ◌+◌, List, [], ◌∷◌, length, get_or, set, replicate, Option, None}
+use Rattle.std.proofs.Common.{sym, ap, ◌∙◌, arith, unwrap_or, refl}
 use Rattle.std.proofs.lemmas.List.{get_or-set_same, get_or-set_other}
 use Rattle.tm_page.specs.Applied.{patched_list}
 use borrow.Author.Count.{below_more}
@@ -31,5 +32,6 @@ all_patched (r ∷ row) [] new a b h = cc
 all_patched (r ∷ row) (o ∷ old) [] a b h = cc
 all_patched (r ∷ row) (o ∷ old) (n ∷ new) a b h =
     let first : unwrap_or r o ≡ n = h 0 (omega arith) in
-    let others : patched_list row old ≡ new = all_patched row old new (omega arith) (omega arith) (λ k less. h (suc k) (omega arith)) in
+    let others : patched_list row old ≡ new =
+    all_patched row old new (omega arith) (omega arith) (λ k less. h (suc k) (omega arith)) in
     λ i. first i ∷ others i

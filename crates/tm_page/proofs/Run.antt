@@ -1,5 +1,6 @@
 -- A run, delta by delta.
-use Rattle.std.proofs.Common.{◌≡◌, ℕ, ◌<◌, ◌%◌, List, [], ◌∷◌, length, Option, Some, None, refl, sym, ap, ◌∙◌, subst, arith}
+use Rattle.std.proofs.Common.{◌≡◌, ℕ, ◌<◌, ◌%◌, List, [], ◌∷◌, length, Option, Some, None, refl, sym, ap, ◌∙◌, subst}
+use Rattle.std.proofs.Common.{arith}
 use Rattle.std.specs.Prelude.{option_map, slice_index, unwrap_or}
 use Rattle.std.specs.FinMap as map_of
 use Rattle.tm_core.specs.Theorem.{ShownMachine, view_at}
@@ -12,7 +13,8 @@ states start now [] page shows are = subst (λ x. Shows x page) are shows
 states start now (delta ∷ deltas) page shows are = states are.0 now deltas (applied delta page) (are.1 page shows) are.2
 
 -- a byte over memory's, which is one of a byte's values
-over : (own : Option ℕ) (memory : ℕ) → unwrap_or own memory % 256 ≡ unwrap_or (option_map (λ byte. byte % 256) own) memory % 256
+over : (own : Option ℕ) (memory : ℕ)
+    → unwrap_or own memory % 256 ≡ unwrap_or (option_map (λ byte. byte % 256) own) memory % 256
 over None memory = refl
 over (Some byte) memory = sym (mod_twice byte)
   where

@@ -12,7 +12,8 @@ use Rattle.tm_model.specs.State.{State}
 use Rattle.tm_model.specs.declared.explain.Reach.{Reach}
 use Rattle.tm_page.specs.Applied.{hit_on, is_listed, patched, stored_at}
 use Rattle.tm_page.specs.Shows.{IsAddress, IsDelta, private_byte}
-use Rattle.tm_page.specs.Types.{Aborted, AbortedBy, Begun, Committed, Condemned, Hit, Idle, Inside, Loaded, Open, Outcome}
+use Rattle.tm_page.specs.Types.{Aborted, AbortedBy, Begun, Committed, Condemned, Hit, Idle, Inside, Loaded, Open}
+use Rattle.tm_page.specs.Types.{Outcome}
 use Rattle.tm_page.specs.Types.{PageDelta, Plain, Stopped}
 
 -- what the machine says before the step of the bytes that it reaches, and of the cores that it hits

@@ -44,7 +44,8 @@ pub fn memory_bytes(
     memory: &[u8],
     addresses: &[u64],
 ) -> Result<Vec<StoredByte>, AllocError>
-    ensures { IfOk result (λ bytes. (address : ℕ) → IsAddress (length memory.now) address → stored_at bytes.items address
+    ensures { IfOk result
+        (λ bytes. (address : ℕ) → IsAddress (length memory.now) address → stored_at bytes.items address
         ≡ (if is_listed addresses.now address then Some (slice_index memory.now address) else None)) }
 {
     let mut bytes = Vec::new(alloc);
@@ -60,7 +61,8 @@ pub fn accessed_bytes(
     memory: &[u8],
     access: Option<Access>,
 ) -> Result<Vec<StoredByte>, AllocError>
-    ensures { IfOk result (λ bytes. (address : ℕ) → IsAddress (length memory.now) address → stored_at bytes.items address
+    ensures { IfOk result
+        (λ bytes. (address : ℕ) → IsAddress (length memory.now) address → stored_at bytes.items address
         ≡ (if is_listed (loaded_addresses access) address then Some (slice_index memory.now address) else None)) }
 {
     let addresses = addresses_of(access);
@@ -71,7 +73,8 @@ pub fn accessed_bytes(
 #[tactic(auto, using(crate::proofs::Lists::byte_stays))]
 fn put_byte(bytes: &mut Vec<StoredByte>, memory: &[u8], address: u64) -> Result<(), AllocError>
     ensures { OnOk result ((at : ℕ) → IsAddress (length memory.now) at → stored_at bytes.new.items at
-        ≡ option_or (stored_at bytes.old.items at) (if nat_eq at address then Some (slice_index memory.now at) else None)) }
+        ≡ option_or (stored_at bytes.old.items at)
+        (if nat_eq at address then Some (slice_index memory.now at) else None)) }
 {
     if address >= memory.len() as u64 {
         return Ok(());

@@ -45,8 +45,8 @@ pub struct PageDelta {
     pub writes: Vec<u32>,
     /// Which bytes it loaded.
     pub load: Option<Access>,
-    /// The bytes that it stored: of a step inside, those that its transaction keeps for itself; of a commit, all that it kept;
-    /// of any other step, memory's.
+    /// The bytes that it stored: of a step inside, those that its transaction keeps for itself; of a commit, all that
+    /// it kept; of any other step, memory's.
     pub stored: Vec<StoredByte>,
     /// For each core, the hit by which the step condemned its transaction, where it did.
     pub hits: [Option<Hit>; 64],

@@ -4,7 +4,8 @@
 //! which bytes count as stored, and that a step in whose place an abort from outside came hit nobody. The step is
 //! made by the caller.
 
-ghost use Rattle.std.specs.Prelude.{◌≡◌, ◌<◌, ◌&&◌, not, ℕ, IfOk, Ok, Some, None, if◌then◌else◌, length, slice_index_or};
+ghost use Rattle.std.specs.Prelude.{◌≡◌, ◌<◌, ◌&&◌, not, ℕ, IfOk, Ok, Some, None, if◌then◌else◌, length};
+ghost use Rattle.std.specs.Prelude.{slice_index_or};
 ghost use Rattle.std.specs.FinSet as set;
 ghost use Rattle.tm_core.specs.Theorem.{ShownMachine, lines_shown, view_at};
 ghost use Rattle.tm_model.specs.Runs.{is_aborted_by};
@@ -24,8 +25,8 @@ use tm_model::{Hit, Outcome};
 use tm_sets::Kind;
 use tm_why::Asked;
 
-/// What the step of this outcome changed, of what was shown before it, where these are all addresses at which the transaction
-/// of its core keeps a byte for itself. `NoSuchCore` (42), or `NoMemory` (43).
+/// What the step of this outcome changed, of what was shown before it, where these are all addresses at which the
+/// transaction of its core keeps a byte for itself. `NoSuchCore` (42), or `NoMemory` (43).
 pub fn delta_of(
     alloc: Global,
     before: &Before,
@@ -114,7 +115,8 @@ fn stored_by(
     machine: &Machine,
 ) -> Result<Vec<StoredByte>, AllocError>
     requires { before.now.asked.core < length machine.now.views }
-    ensures { IfOk result (λ bytes. (address : ℕ) → IsAddress (length machine.now.memory) address → stored_at bytes.items address
+    ensures { IfOk result
+        (λ bytes. (address : ℕ) → IsAddress (length machine.now.memory) address → stored_at bytes.items address
         ≡ (if is_listed (addresses_told outcome before.now.reach kept.now) address
         then Some (byte_told outcome machine.now before.now.asked.core address)
         else None)) }

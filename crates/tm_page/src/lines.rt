@@ -25,8 +25,8 @@ pub fn lines_of(
     machine.sets(alloc, core, kind)
 }
 
-/// Those of the second list that do not stand in the first. Where both ascend, and the first has all but few of the second, it
-/// takes one step for each line, and goes over the first list for those few.
+/// Those of the second list that do not stand in the first. Where both ascend, and the first has all but few of the
+/// second, it takes one step for each line, and goes over the first list for those few.
 pub fn joined(alloc: Global, old: &[u32], new: &[u32]) -> Result<Vec<u32>, AllocError>
     ensures { IfOk result (λ lines. (line : ℕ) → is_listed lines.items line
         ≡ (is_listed new.now line && not (is_listed old.now line))) }

@@ -5,7 +5,8 @@ use Rattle.tm_pick.specs.Begun.{falls_among}
 use Rattle.tm_pick.specs.Chances.{below}
 
 pub falls_more : (made length one : ℕ) (falls next : List ℕ) (start words behind : Stream) →
-    (falls, words) ≡ falls_among made length start → (one, behind) ≡ below length words → next ≡ falls ++ (1 + one) ∷ [] →
+    (falls, words) ≡ falls_among made length start → (one, behind) ≡ below length words
+    → next ≡ falls ++ (1 + one) ∷ [] →
     (next, behind) ≡ falls_among (made + 1) length start
 falls_more made length one falls next start words behind so_far drawn is =
     let more : made + 1 ≡ suc made = omega arith in

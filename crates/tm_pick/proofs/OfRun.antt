@@ -9,8 +9,10 @@ use Rattle.tm_pick.specs.declared.method.Method.{Method}
 use Rattle.tm_pick.specs.declared.method.Plan.{Plan}
 
 -- of this method, and from these numbers
-pub cores_by : (plan : Plan) (run cores : ℕ) (way : Method) (words : Stream) (manner : Manner) → way ≡ method_of_run plan.method run →
-    words ≡ generator_of (number_of_run plan.seed run) → IsManner way run cores plan.length words manner → AreCoresOf plan run cores manner
+pub cores_by : (plan : Plan) (run cores : ℕ) (way : Method) (words : Stream) (manner : Manner)
+    → way ≡ method_of_run plan.method run →
+    words ≡ generator_of (number_of_run plan.seed run) → IsManner way run cores plan.length words manner
+    → AreCoresOf plan run cores manner
 cores_by plan run cores way words manner same from is =
     subst (λ (w : Method). IsManner w run cores plan.length (generator_of (number_of_run plan.seed run)) manner) same
     (subst (λ (s : Stream). IsManner way run cores plan.length s manner) from is)

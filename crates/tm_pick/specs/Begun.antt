@@ -1,5 +1,6 @@
 -- What the steps of the run of a number begin with (docs/FORMATS.md, "Hunt").
-use Rattle.std.specs.Prelude.{◌≡◌, ℕ, zero, suc, ◌+◌, ◌^◌, List, [], ◌∷◌, ◌++◌, max, nat_eq, if◌then◌else◌, MatchOption, Option}
+use Rattle.std.specs.Prelude.{◌≡◌, ℕ, zero, suc, ◌+◌, ◌^◌, List, [], ◌∷◌, ◌++◌, max, nat_eq, if◌then◌else◌, MatchOption}
+use Rattle.std.specs.Prelude.{Option}
 use Rattle.std.specs.Prelude.{None}
 use Rattle.std.specs.List.{range_with_len}
 use Rattle.rand.specs.Shuffle.{shuffled}

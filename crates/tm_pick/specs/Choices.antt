@@ -1,5 +1,6 @@
 -- Which core steps next, by chance.
-use Rattle.std.specs.Prelude.{◌≡◌, ◌≢◌, ⊤, ◌<◌, ◌+◌, ℕ, List, [], ◌∷◌, ◌++◌, Bool, true, false, Contains, length, slice_index}
+use Rattle.std.specs.Prelude.{◌≡◌, ◌≢◌, ⊤, ◌<◌, ◌+◌, ℕ, List, [], ◌∷◌, ◌++◌, Bool, true, false, Contains, length}
+use Rattle.std.specs.Prelude.{slice_index}
 use Rattle.rand.specs.Shuffle.{shuffled}
 use Rattle.rand_core.specs.Stream.{Stream}
 use Rattle.tm_pick.specs.Chances.{below, words_of}

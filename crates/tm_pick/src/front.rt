@@ -59,8 +59,8 @@ impl<'a> Front<'a> {
     ghost use Rattle.tm_pick.specs.Kinds.{IsOfKinds};
     ghost use Rattle.tm_pick.specs.Listed.{kinds_in};
 
-    /// The steps of this list, and behind it one core after another to its end, the core of the last step first, in a run
-    /// that takes about so many steps.
+    /// The steps of this list, and behind it one core after another to its end, the core of the last step first, in a
+    /// run that takes about so many steps.
     pub fn to_the_ends(steps: &'a [Pick], length: u32) -> Front<'a>
         ensures { result ≡ kinds_in steps.now }
     {

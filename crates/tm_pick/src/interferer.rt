@@ -55,8 +55,8 @@ impl Interferer {
         }
     }
 
-    /// How many of the next steps come under no event, at most so many, and the event of the one behind them, where that
-    /// one is among so many: what `next` answers for one after another. Without events it takes no time.
+    /// How many of the next steps come under no event, at most so many, and the event of the one behind them, where
+    /// that one is among so many: what `next` answers for one after another. Without events it takes no time.
     pub fn steps_before(&mut self, most: u32) -> (u32, Option<Event>)
         ensures none { IfNone result.1 (result.0 ≡ most) }
         ensures some { IfSome result.1 (λ _. result.0 < most) }

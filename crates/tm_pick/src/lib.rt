@@ -6,14 +6,14 @@
 //! xoshiro256++ of the crate `rand_xoshiro`, seeded by SplitMix64; an [`Interferer`] draws the events from a generator
 //! of their own. Takes no memory.
 //!
-//! Promised: a pick's core is one that has not stopped; where the cores go round by round it is the one whose turn it is;
-//! its event is of the kinds that were asked for, and it has none where none were. Of the run of a number: by which method
-//! its cores are drawn, and that they and its events are drawn from the generators of its seed and its number
+//! Promised: a pick's core is one that has not stopped; where the cores go round by round it is the one whose turn it
+//! is; its event is of the kinds that were asked for, and it has none where none were. Of the run of a number: by which
+//! method its cores are drawn, and that they and its events are drawn from the generators of its seed and its number
 //! (`specs/Begun.antt`); each core that is drawn, by chance, in bursts or where other cores see it, is the one that the
 //! generator's next numbers say (`specs/Choices.antt`), and so is each event (`specs/Befalls.antt`). By priorities just
-//! their order at first and where they fall is: at a PAUSE, where they were drawn to fall, and behind rows of steps alone
-//! that are longer than twice the length of a run. Which steps no other core sees ([`is_unseen`]) is promised nothing.
-//! Stands on `ia_image`, `tm_rule` and `tm_core` for the instruction that a core is at.
+//! their order at first and where they fall is: at a PAUSE, where they were drawn to fall, and behind rows of steps
+//! alone that are longer than twice the length of a run. Which steps no other core sees ([`is_unseen`]) is promised
+//! nothing. Stands on `ia_image`, `tm_rule` and `tm_core` for the instruction that a core is at.
 #![tactic(auto)]
 
 mod bursts;

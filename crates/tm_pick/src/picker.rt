@@ -77,8 +77,8 @@ impl<'a> Picker<'a> {
     }
 
     /// The steps of a list, of which those of cores that have stopped are left out; and behind them one core after
-    /// another to its end, the core of the last step first, under no events. A core gives way where it is at a PAUSE, and
-    /// after twice so many steps in a row as the run takes, about, and 400 at least.
+    /// another to its end, the core of the last step first, under no events. A core gives way where it is at a PAUSE,
+    /// and after twice so many steps in a row as the run takes, about, and 400 at least.
     #[tactic(auto, using(crate::proofs::OfKinds::listed_among))]
     pub fn front(steps: &'a [Pick], length: u32) -> Picker<'a>
         ensures { (kinds : Kinds) → AreOfKinds kinds steps.now → AreAmong result.kinds kinds }
@@ -86,8 +86,8 @@ impl<'a> Picker<'a> {
         Picker::of_manner(Manner::Front(Front::to_the_ends(steps, length)))
     }
 
-    /// The steps of a list, of which those of cores that have stopped are left out; and behind them each core in turn, the
-    /// one behind the core of the last step first, under no events.
+    /// The steps of a list, of which those of cores that have stopped are left out; and behind them each core in turn,
+    /// the one behind the core of the last step first, under no events.
     #[tactic(auto, using(crate::proofs::OfKinds::listed_among))]
     pub fn front_in_turn(steps: &'a [Pick]) -> Picker<'a>
         ensures { (kinds : Kinds) → AreOfKinds kinds steps.now → AreAmong result.kinds kinds }
@@ -133,9 +133,9 @@ impl<'a> Picker<'a> {
         Picker::of_manner(Manner::Priorities(Priorities::new(chance, &going, length)))
     }
 
-    /// What it heeds of the core of the step before, which it is told for the next step: whether the core is at a PAUSE,
-    /// by which a loop that waits for another core gives way, or whether no other core sees the core's next step. False
-    /// where it heeds nothing. The machine is one of the program.
+    /// What it heeds of the core of the step before, which it is told for the next step: whether the core is at a
+    /// PAUSE, by which a loop that waits for another core gives way, or whether no other core sees the core's next
+    /// step. False where it heeds nothing. The machine is one of the program.
     pub fn heeds(&self, program: &Program, machine: &Machine, core: u8) -> bool {
         self.manner.heeds(program, machine, core)
     }

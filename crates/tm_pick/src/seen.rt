@@ -12,8 +12,8 @@ use crate::chance::Chance;
 use crate::going::Going;
 use crate::rounds::Rounds;
 
-/// Draws only where other cores may see a step: a core whose next step no other core sees goes on without a draw, for at
-/// most so many steps in a row.
+/// Draws only where other cores may see a step: a core whose next step no other core sees goes on without a draw, for
+/// at most so many steps in a row.
 #[derive(Drop)]
 pub struct Seen {
     draws: Draws,

@@ -9,10 +9,10 @@ use tm_core::Machine;
 use tm_model::CoreState;
 use tm_rule::{Code, fetch, load_at, row};
 
-/// Whether no other core sees the next step of a core: it loads nothing from memory and stores nothing there, and no step
-/// of another core changes what it is. So is an instruction on registers alone outside of transactions, an XBEGIN there, a
-/// stop whose instruction loads nothing, and the abort of a transaction that was hit. No other step of a transaction is,
-/// since a hit would make an abort of it. The machine is one of the program.
+/// Whether no other core sees the next step of a core: it loads nothing from memory and stores nothing there, and no
+/// step of another core changes what it is. So is an instruction on registers alone outside of transactions, an XBEGIN
+/// there, a stop whose instruction loads nothing, and the abort of a transaction that was hit. No other step of a
+/// transaction is, since a hit would make an abort of it. The machine is one of the program.
 pub fn is_unseen(program: &Program, machine: &Machine, core: u8) -> bool {
     match machine.state(core) {
         Ok(CoreState::Condemned(_)) => true,

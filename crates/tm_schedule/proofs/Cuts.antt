@@ -1,5 +1,6 @@
 -- A text that is cut at the first of some byte.
-use Rattle.std.proofs.Common.{◌≡◌, ℕ, suc, ◌+◌, ◌-◌, ◌<◌, ◌≤◌, Bool, true, false, not, cond, List, [], ◌∷◌, refl, sym, ◌∙◌, ap, arith, length, take, drop, Some, None, nat_lt, min}
+use Rattle.std.proofs.Common.{◌≡◌, ℕ, suc, ◌+◌, ◌-◌, ◌<◌, ◌≤◌, Bool, true, false, not, cond, List, [], ◌∷◌, refl, sym}
+use Rattle.std.proofs.Common.{◌∙◌, ap, arith, length, take, drop, Some, None, nat_lt, min}
 use Rattle.std.proofs.lemmas.Grind.{common_steps}
 use Rattle.std.proofs.lemmas.Bool.{ltb-true, ltb-false}
 use Rattle.std.proofs.lemmas.List.{take_min}
@@ -37,7 +38,9 @@ cut_at p xs rest i at e =
 nowhere : (p : ℕ → Bool) (xs : List ℕ) → length xs ≤ position_or_len p xs → slice_split p xs ≡ xs ∷ []
 nowhere p [] h = refl
 nowhere p (x ∷ xs) h =
-    elim (p x) as (λ b. suc (length xs) ≤ cond (not b) (1 + prefix_len (λ y. not (p y)) xs) 0 → cond b ([] ∷ slice_split p xs) (onto_first x (slice_split p xs)) ≡ (x ∷ xs) ∷ [])
+    elim (p x)
+    as (λ b. suc (length xs) ≤ cond (not b) (1 + prefix_len (λ y. not (p y)) xs) 0
+    → cond b ([] ∷ slice_split p xs) (onto_first x (slice_split p xs)) ≡ (x ∷ xs) ∷ [])
     [ true ↦ λ e. absurd (omega arith) | false ↦ λ e. ap (onto_first x) (nowhere p xs (omega arith)) ] h
 
 pub cut_nowhere : (p : ℕ → Bool) (xs : List ℕ) → None ≡ position p xs → slice_split p xs ≡ xs ∷ []
@@ -52,7 +55,8 @@ pub rest_at : (xs : List ℕ) (i : ℕ) → i < length xs → take (length xs - 
 rest_at xs i h = grind (arith, common_steps)
 
 -- up to n bytes from a place on
-pub row_cut : (xs : List ℕ) (from n k : ℕ) → from ≤ length xs → k ≡ min (length (take (length xs - from) (drop from xs))) n →
+pub row_cut : (xs : List ℕ) (from n k : ℕ) → from ≤ length xs
+    → k ≡ min (length (take (length xs - from) (drop from xs))) n →
     take k (take (length xs - from) (drop from xs)) ≡ take n (drop from xs)
 row_cut xs from n k h e =
     let whole = rest_is xs from h in

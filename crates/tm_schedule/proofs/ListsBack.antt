@@ -1,5 +1,6 @@
 -- A list of steps, one a word, reads as that list.
-use Rattle.std.proofs.Common.{◌≡◌, ℕ, ◌||◌, Bool, true, false, List, [], ◌∷◌, refl, ◌∙◌, ap, arith, length, map, Option, Some, None, Ok}
+use Rattle.std.proofs.Common.{◌≡◌, ℕ, ◌||◌, Bool, true, false, List, [], ◌∷◌, refl, ◌∙◌, ap, arith, length, map, Option}
+use Rattle.std.proofs.Common.{Some, None, Ok}
 use Rattle.std.specs.Prelude.{◌==◌, is_some, option_map}
 use Rattle.std.specs.List.{AllByRecursion, flat_map}
 use Rattle.std.proofs.lemmas.Bool.Decides.{nat_tests}
@@ -48,7 +49,10 @@ single_back form pick h =
 
 are_words : (picks : List Pick) → AreWords (map pick_word picks)
 are_words [] = tt
-are_words (pick ∷ picks) = (record { some = pick_long pick; above = above_less 32 42 (pick_word pick) (omega arith) (pick_above pick) }, are_words picks)
+are_words (pick ∷ picks) = (
+  record { some = pick_long pick; above = above_less 32 42 (pick_word pick) (omega arith) (pick_above pick) },
+  are_words picks,
+)
 
 are_said : (form : Form) (picks : List Pick) → AllFit form picks → AreSaid (single_steps form) pick_word step picks
 are_said form [] h = tt
@@ -64,10 +68,12 @@ list_back form n picks h =
     let words = words_from n (lines_of (steps_text picks)) in
     let same = words_back 32 0 n (map pick_word picks) (are_words picks) in
     let said = are_said form picks h in
-    ap (λ fault. unless fault (flat_map (steps_said (single_steps form)) words)) (fault_back (single_steps form) None pick_word step words picks 0 same said refl)
+    ap (λ fault. unless fault (flat_map (steps_said (single_steps form)) words))
+    (fault_back (single_steps form) None pick_word step words picks 0 same said refl)
     ∙ ap Ok (said_back (single_steps form) pick_word step words picks same said ∙ steps_are picks)
 
-pub numbers_back : (picks : List Pick) → AreBytes picks → has_event picks ≡ false → schedule_of (numbers_text picks) ≡ Ok picks
+pub numbers_back : (picks : List Pick) → AreBytes picks → has_event picks ≡ false
+    → schedule_of (numbers_text picks) ≡ Ok picks
 numbers_back picks h e = list_back Cores 2 picks (plain_fit picks h e)
 
 pub steps_back : (picks : List Pick) → AreBytes picks → steps_of (steps_text picks) ≡ Ok picks

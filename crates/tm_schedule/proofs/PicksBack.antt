@@ -1,5 +1,6 @@
 -- A step that is written as a word reads as that step.
-use Rattle.std.proofs.Common.{◌≡◌, ℕ, ◌+◌, ◌-◌, ◌%◌, ◌<◌, ◌==◌, true, List, [], ◌∷◌, ◌++◌, refl, sym, ◌∙◌, ap, ap₂, arith, length, take, Option, Some, None}
+use Rattle.std.proofs.Common.{◌≡◌, ℕ, ◌+◌, ◌-◌, ◌%◌, ◌<◌, ◌==◌, true, List, [], ◌∷◌, ◌++◌, refl, sym, ◌∙◌, ap, ap₂}
+use Rattle.std.proofs.Common.{arith, length, take, Option, Some, None}
 use Rattle.std.specs.Prelude.{nat_lt, slice_index}
 use Rattle.std.proofs.lemmas.Bool.{eq-eqb, eqb-true, ltb-true, ne_eqb}
 use Rattle.std.proofs.lemmas.List.{append-nil, length-append}
@@ -11,7 +12,8 @@ use Rattle.tm_model.specs.declared.outcome.Interference.TheVariants.{Interrupt, 
 use Rattle.tm_schedule.specs.declared.schedule.picks.Form.{Form}
 use Rattle.tm_schedule.specs.declared.schedule.picks.Form.TheVariants.{Cores, Picks}
 use Rattle.tm_schedule.specs.ScheduleNumbers.{core_number}
-use Rattle.tm_schedule.specs.Picks.{event_of, pick_from, pick_at, pick_of_word, pick_in, event_letter, event_text, pick_word, is_same}
+use Rattle.tm_schedule.specs.Picks.{event_of, pick_from, pick_at, pick_of_word, pick_in, event_letter, event_text}
+use Rattle.tm_schedule.specs.Picks.{pick_word, is_same}
 use Rattle.tm_schedule.proofs.Counts.{both}
 use Rattle.tm_schedule.proofs.NumbersBack.{cases, number_digits, number_long, core_back}
 use Rattle.tm_schedule.proofs.WordsBack.{Above, above_append}
@@ -43,12 +45,19 @@ same_pick a b h =
     ap₂ pick_with core event
 
 pub pick_same : (a b : Pick) → a ≡ b → is_same a b ≡ true
-pick_same a b h = rw (eq-eqb a.core b.core (ap (λ (p : Pick). p.core) h), eq-eqb (event_letter a.event) (event_letter b.event) (ap (λ (p : Pick). event_letter p.event) h)) refl
+pick_same a b h = rw (
+  eq-eqb a.core b.core (ap (λ (p : Pick). p.core) h),
+  eq-eqb (event_letter a.event) (event_letter b.event) (ap (λ (p : Pick). event_letter p.event) h),
+) refl
 
 -- ---- a word
 
 pub digit_none : (d : ℕ) → d < 10 → event_of (48 + d) ≡ None
-digit_none d h = rw (ne_eqb (48 + d) 105 (λ e. omega arith), ne_eqb (48 + d) 101 (λ e. omega arith), ne_eqb (48 + d) 115 (λ e. omega arith)) refl
+digit_none d h = rw (
+  ne_eqb (48 + d) 105 (λ e. omega arith),
+  ne_eqb (48 + d) 101 (λ e. omega arith),
+  ne_eqb (48 + d) 115 (λ e. omega arith),
+) refl
 
 number_none : (n : ℕ) → event_of (slice_index (number_text n) (length (number_text n) - 1)) ≡ None
 unfolding number_text
@@ -80,13 +89,15 @@ unfolding pick_of_word
 plain_back core h = ap (pick_at (number_text core)) (number_none core) ∙ ap (λ c. pick_from c None) (core_back core h)
 
 event_word_back : (core : ℕ) (event : Event) → core < 256 →
-    pick_of_word (number_text core ++ event_letter (Some event) ∷ []) ≡ Some (record { core = core; event = Some event })
+    pick_of_word (number_text core ++ event_letter (Some event) ∷ [])
+    ≡ Some (record { core = core; event = Some event })
 unfolding pick_of_word
 event_word_back core event h =
     let front = number_text core in
     let letter = event_letter (Some event) in
     let word = front ++ letter ∷ [] in
-    let last : slice_index word (length word - 1) ≡ letter = ap (slice_index word) (before_last front letter) ∙ last_of front letter in
+    let last : slice_index word (length word - 1) ≡ letter =
+    ap (slice_index word) (before_last front letter) ∙ last_of front letter in
     ap (pick_at word) (ap event_of last ∙ event_back (Some event))
     ∙ ap (λ n. pick_from (core_number (take n word)) (Some event)) (before_last front letter)
     ∙ ap (λ text. pick_from (core_number text) (Some event)) (take_front front (letter ∷ []))
@@ -97,7 +108,8 @@ abbrev pub Fits : Form → Pick → Type 0
 Fits Cores pick = (pick.core < 256) × (pick.event ≡ None)
 Fits Picks pick = pick.core < 256
 
-back_at : (core : ℕ) (event : Option Event) → core < 256 → pick_of_word (number_text core ++ event_text event) ≡ Some (record { core = core; event = event })
+back_at : (core : ℕ) (event : Option Event) → core < 256
+    → pick_of_word (number_text core ++ event_text event) ≡ Some (record { core = core; event = event })
 back_at core None h = ap pick_of_word (plain_word core) ∙ plain_back core h
 back_at core (Some event) h = event_word_back core event h
 
@@ -114,7 +126,8 @@ event_above None = tt
 event_above (Some event) = (letter_above event, tt)
 
 pub pick_above : (pick : Pick) → Above 42 (pick_word pick)
-pick_above pick = above_append 42 (number_text pick.core) (event_text pick.event) (number_digits pick.core) (event_above pick.event)
+pick_above pick =
+    above_append 42 (number_text pick.core) (event_text pick.event) (number_digits pick.core) (event_above pick.event)
 
 pub pick_long : (pick : Pick) → 0 < length (pick_word pick)
 pick_long pick =

@@ -1,5 +1,6 @@
 -- The runs of a list are the list.
-use Rattle.std.proofs.Common.{map, ◌≡◌, ℕ, ◌+◌, ◌≤◌, ◌==◌, ◌&&◌, Bool, true, false, List, [], ◌∷◌, ◌++◌, refl, sym, ◌∙◌, ap, arith, append_assoc}
+use Rattle.std.proofs.Common.{map, ◌≡◌, ℕ, ◌+◌, ◌≤◌, ◌==◌, ◌&&◌, Bool, true, false, List, [], ◌∷◌, ◌++◌, refl, sym, ◌∙◌}
+use Rattle.std.proofs.Common.{ap, arith, append_assoc}
 use Rattle.std.specs.Prelude.{cond, nat_lt}
 use Rattle.std.specs.List.{AllByRecursion, flat_map}
 use Rattle.std.proofs.lemmas.Bool.{ltb-true, ltb-false}
@@ -28,7 +29,8 @@ AreRuns form runs = AllByRecursion (IsRun form) runs
 steps_behind : (run : Run) (picks : List Pick) → flat_map run_steps (runs_behind run picks) ≡ run_steps run ++ picks
 steps_behind run [] = refl
 steps_behind run (pick ∷ picks) =
-    by_test (λ runs. flat_map run_steps runs ≡ run_steps run ++ pick ∷ picks) (is_same pick run.pick && nat_lt run.count 16777216) _ _
+    by_test (λ runs. flat_map run_steps runs ≡ run_steps run ++ pick ∷ picks)
+    (is_same pick run.pick && nat_lt run.count 16777216) _ _
     (λ e. let same = same_pick pick run.pick (both (is_same pick run.pick) (nat_lt run.count 16777216) e).0 in
     steps_behind (record { pick = run.pick; count = run.count + 1 }) picks
     ∙ ap (λ steps. steps ++ picks) (sym (replicate_more run.count run.pick))
@@ -40,33 +42,40 @@ pub runs_steps : (picks : List Pick) → flat_map run_steps (runs_of picks) ≡ 
 runs_steps [] = refl
 runs_steps (pick ∷ picks) = steps_behind (once pick) picks
 
-are_behind : (form : Form) (run : Run) (picks : List Pick) → IsRun form run → AllFit form picks → AreRuns form (runs_behind run picks)
+are_behind : (form : Form) (run : Run) (picks : List Pick) → IsRun form run → AllFit form picks
+    → AreRuns form (runs_behind run picks)
 are_behind form run [] r h = (r, tt)
 are_behind form run (pick ∷ picks) r h =
     by_test (AreRuns form) (is_same pick run.pick && nat_lt run.count 16777216) _ _
     (λ e. let room = ltb-true run.count 16777216 (both (is_same pick run.pick) (nat_lt run.count 16777216) e).1 in
-    are_behind form (record { pick = run.pick; count = run.count + 1 }) picks (record { pick = r.pick; some = omega arith; few = omega arith }) h.1)
+    are_behind form (record { pick = run.pick; count = run.count + 1 }) picks
+    (record { pick = r.pick; some = omega arith; few = omega arith }) h.1)
     (λ e. (r, are_behind form (once pick) picks (record { pick = h.0; some = omega arith; few = omega arith }) h.1))
 
 pub are_runs : (form : Form) (picks : List Pick) → AllFit form picks → AreRuns form (runs_of picks)
 are_runs form [] h = tt
-are_runs form (pick ∷ picks) h = are_behind form (once pick) picks (record { pick = h.0; some = omega arith; few = omega arith }) h.1
+are_runs form (pick ∷ picks) h =
+    are_behind form (once pick) picks (record { pick = h.0; some = omega arith; few = omega arith }) h.1
 
 second : (a b : Bool) → (a && b) ≡ false → a ≡ true → b ≡ false
 second true b e h = e
 second false b e h = absurd (cc)
 
 -- a run that doesn't go on has another step behind it, or the most steps
-full : (run : Run) (pick : Pick) → run.count ≤ 16777216 → (is_same pick run.pick && nat_lt run.count 16777216) ≡ false → run.pick ≡ pick → run.count ≡ 16777216
+full : (run : Run) (pick : Pick) → run.count ≤ 16777216 → (is_same pick run.pick && nat_lt run.count 16777216) ≡ false
+    → run.pick ≡ pick → run.count ≡ 16777216
 full run pick few e same =
-    let most = ltb-false run.count 16777216 (second (is_same pick run.pick) (nat_lt run.count 16777216) e (pick_same pick run.pick (sym same))) in
+    let most = ltb-false run.count 16777216
+    (second (is_same pick run.pick) (nat_lt run.count 16777216) e (pick_same pick run.pick (sym same))) in
     omega arith
 
-longest_then : (run next : Run) (picks : List Pick) → (run.pick ≡ next.pick → run.count ≡ 16777216) → AreLongest (runs_behind next picks) →
+longest_then : (run next : Run) (picks : List Pick) → (run.pick ≡ next.pick → run.count ≡ 16777216)
+    → AreLongest (runs_behind next picks) →
     AreLongest (run ∷ runs_behind next picks)
 longest_then run next [] stops = λ h. (stops, h)
 longest_then run next (pick ∷ picks) stops =
-    by_test (λ runs. AreLongest runs → AreLongest (run ∷ runs)) (is_same pick next.pick && nat_lt next.count 16777216) _ _
+    by_test (λ runs. AreLongest runs → AreLongest (run ∷ runs))
+    (is_same pick next.pick && nat_lt next.count 16777216) _ _
     (λ e. longest_then run (record { pick = next.pick; count = next.count + 1 }) picks stops)
     (λ e h. (stops, h))
 
@@ -83,9 +92,11 @@ are_longest [] = tt
 are_longest (pick ∷ picks) = longest_from (once pick) picks (omega arith)
 
 -- what stands behind a word that is not the last
-pub behind_more : (column : ℕ) (run : Run) (picks : List Pick) → behind_word 16 column (map run_word (runs_behind run picks)) ≡ cond (column + 1 == 16) line_end (32 ∷ [])
+pub behind_more : (column : ℕ) (run : Run) (picks : List Pick)
+    → behind_word 16 column (map run_word (runs_behind run picks)) ≡ cond (column + 1 == 16) line_end (32 ∷ [])
 behind_more column run [] = refl
 behind_more column run (pick ∷ picks) =
-    by_test (λ runs. behind_word 16 column (map run_word runs) ≡ cond (column + 1 == 16) line_end (32 ∷ [])) (is_same pick run.pick && nat_lt run.count 16777216) _ _
+    by_test (λ runs. behind_word 16 column (map run_word runs) ≡ cond (column + 1 == 16) line_end (32 ∷ []))
+    (is_same pick run.pick && nat_lt run.count 16777216) _ _
     (λ e. behind_more column (record { pick = run.pick; count = run.count + 1 }) picks)
     (λ e. refl)

@@ -1,5 +1,6 @@
 -- A word of one digit at the front of a text.
-use Rattle.std.proofs.Common.{◌≡◌, ℕ, ◌+◌, ◌<◌, Bool, true, false, List, [], ◌∷◌, ◌++◌, refl, ◌∙◌, ap, arith, length, Option, Some, None}
+use Rattle.std.proofs.Common.{◌≡◌, ℕ, ◌+◌, ◌<◌, Bool, true, false, List, [], ◌∷◌, ◌++◌, refl, ◌∙◌, ap, arith, length}
+use Rattle.std.proofs.Common.{Option, Some, None}
 use Rattle.std.specs.Int.{from_bool}
 use Rattle.std.specs.Prelude.{◌≤◌, if◌then◌else◌, option_map, unwrap_or}
 use Rattle.std.specs.List.{flat_map}
@@ -45,11 +46,14 @@ nothing_says : (form : Form) → single_steps form [] ≡ Some []
 unfolding single_steps
 nothing_says form = refl
 
-word_fault : (form : Form) (core n before : ℕ) (words : List Word) → core < 10 → fault form before (word n core ∷ words) ≡ fault form (before + 1) words
+word_fault : (form : Form) (core n before : ℕ) (words : List Word) → core < 10
+    → fault form before (word n core ∷ words) ≡ fault form (before + 1) words
 word_fault form core n before words h =
-    ap (λ o. first_of (steps_fault None before n o) (fault form (before + length (unwrap_or o [])) words)) (digit_says form core h)
+    ap (λ o. first_of (steps_fault None before n o) (fault form (before + length (unwrap_or o [])) words))
+    (digit_says form core h)
 
-word_steps : (form : Form) (core n : ℕ) (words : List Word) → core < 10 → steps form (word n core ∷ words) ≡ plain core ∷ steps form words
+word_steps : (form : Form) (core n : ℕ) (words : List Word) → core < 10
+    → steps form (word n core ∷ words) ≡ plain core ∷ steps form words
 word_steps form core n words h = ap (λ o. unwrap_or o [] ++ steps form words) (digit_says form core h)
 
 empty_fault : (form : Form) (n before : ℕ) → fault form before (record { line = n; text = [] } ∷ []) ≡ None
@@ -60,29 +64,43 @@ empty_steps form n = ap (λ o. unwrap_or o [] ++ []) (nothing_says form)
 
 -- ---- before a space
 
-space_lines : (core : ℕ) (rest : List ℕ) → core < 10 → lines_of ((48 + core) ∷ 32 ∷ rest) ≡ onto (48 + core) (onto 32 (lines_of rest))
-space_lines core rest h = rw (differs 10 32 (48 + core) (omega arith) (omega arith), differs 13 32 (48 + core) (omega arith) (omega arith)) refl
+space_lines : (core : ℕ) (rest : List ℕ) → core < 10
+    → lines_of ((48 + core) ∷ 32 ∷ rest) ≡ onto (48 + core) (onto 32 (lines_of rest))
+space_lines core rest h = rw
+    (differs 10 32 (48 + core) (omega arith) (omega arith), differs 13 32 (48 + core) (omega arith) (omega arith)) refl
 
-space_words : (core n : ℕ) (l : List ℕ) (ls : List (List ℕ)) → core < 10 → words_from n (onto (48 + core) (onto 32 (l ∷ ls))) ≡ word n core ∷ words_from n (l ∷ ls)
-space_words core n l ls h = ap (λ words. on_line n words ++ words_from (n + 1) ls) (split_more 32 32 (digit core) l (omega arith) (omega arith, tt))
+space_words : (core n : ℕ) (l : List ℕ) (ls : List (List ℕ)) → core < 10
+    → words_from n (onto (48 + core) (onto 32 (l ∷ ls))) ≡ word n core ∷ words_from n (l ∷ ls)
+space_words core n l ls h = ap (λ words. on_line n words ++ words_from (n + 1) ls)
+    (split_more 32 32 (digit core) l (omega arith) (omega arith, tt))
 
-last_words : (core n : ℕ) → core < 10 → words_from n (onto (48 + core) (onto 32 [])) ≡ word n core ∷ record { line = n; text = [] } ∷ []
-last_words core n h = ap (λ words. on_line n words ++ []) (split_more 32 32 (digit core) [] (omega arith) (omega arith, tt))
+last_words : (core n : ℕ) → core < 10
+    → words_from n (onto (48 + core) (onto 32 [])) ≡ word n core ∷ record { line = n; text = [] } ∷ []
+last_words core n h =
+    ap (λ words. on_line n words ++ []) (split_more 32 32 (digit core) [] (omega arith) (omega arith, tt))
 
-space_fault : (form : Form) (core n before : ℕ) (lines : List (List ℕ)) → core < 10 → fault form before (words_from n (onto (48 + core) (onto 32 lines))) ≡ fault form (before + 1) (words_from n lines)
-space_fault form core n before [] h = ap (fault form before) (last_words core n h) ∙ word_fault form core n before (record { line = n; text = [] } ∷ []) h ∙ empty_fault form n (before + 1)
-space_fault form core n before (l ∷ ls) h = ap (fault form before) (space_words core n l ls h) ∙ word_fault form core n before (words_from n (l ∷ ls)) h
+space_fault : (form : Form) (core n before : ℕ) (lines : List (List ℕ)) → core < 10
+    → fault form before (words_from n (onto (48 + core) (onto 32 lines))) ≡ fault form (before + 1) (words_from n lines)
+space_fault form core n before [] h = ap (fault form before) (last_words core n h)
+    ∙ word_fault form core n before (record { line = n; text = [] } ∷ []) h ∙ empty_fault form n (before + 1)
+space_fault form core n before (l ∷ ls) h =
+    ap (fault form before) (space_words core n l ls h) ∙ word_fault form core n before (words_from n (l ∷ ls)) h
 
-space_steps : (form : Form) (core n : ℕ) (lines : List (List ℕ)) → core < 10 → steps form (words_from n (onto (48 + core) (onto 32 lines))) ≡ plain core ∷ steps form (words_from n lines)
-space_steps form core n [] h = ap (steps form) (last_words core n h) ∙ word_steps form core n (record { line = n; text = [] } ∷ []) h ∙ ap (λ xs. plain core ∷ xs) (empty_steps form n)
-space_steps form core n (l ∷ ls) h = ap (steps form) (space_words core n l ls h) ∙ word_steps form core n (words_from n (l ∷ ls)) h
+space_steps : (form : Form) (core n : ℕ) (lines : List (List ℕ)) → core < 10
+    → steps form (words_from n (onto (48 + core) (onto 32 lines))) ≡ plain core ∷ steps form (words_from n lines)
+space_steps form core n [] h = ap (steps form) (last_words core n h)
+    ∙ word_steps form core n (record { line = n; text = [] } ∷ []) h ∙ ap (λ xs. plain core ∷ xs) (empty_steps form n)
+space_steps form core n (l ∷ ls) h =
+    ap (steps form) (space_words core n l ls h) ∙ word_steps form core n (words_from n (l ∷ ls)) h
 
 -- ---- before a line end
 
-end_words : (core n : ℕ) (rest : List ℕ) → core < 10 → words_from n (lines_of ((48 + core) ∷ 10 ∷ rest)) ≡ word n core ∷ words_from (n + 1) (lines_of rest)
+end_words : (core n : ℕ) (rest : List ℕ) → core < 10
+    → words_from n (lines_of ((48 + core) ∷ 10 ∷ rest)) ≡ word n core ∷ words_from (n + 1) (lines_of rest)
 end_words core n rest h =
     ap (words_from n) (line_more (digit core) rest (omega arith, tt))
-    ∙ ap (λ words. on_line n words ++ words_from (n + 1) (lines_of rest)) (split_end 32 32 (digit core) (omega arith) (omega arith, tt))
+    ∙ ap (λ words. on_line n words ++ words_from (n + 1) (lines_of rest))
+    (split_end 32 32 (digit core) (omega arith) (omega arith, tt))
 
 -- ---- either
 
@@ -99,21 +117,32 @@ at_most_one true = omega arith
 at_most_one false = omega arith
 
 text_fault : (form : Form) (core n before : ℕ) (ends : Bool) (rest : List ℕ) → core < 10 →
-    fault form before (words_from n (lines_of ((48 + core) ∷ (if ends then 10 else 32) ∷ rest))) ≡ fault form (before + 1) (words_from (behind n ends) (lines_of rest))
-text_fault form core n before true rest h = ap (fault form before) (end_words core n rest h) ∙ word_fault form core n before (words_from (n + 1) (lines_of rest)) h
-text_fault form core n before false rest h = ap (λ lines. fault form before (words_from n lines)) (space_lines core rest h) ∙ space_fault form core n before (lines_of rest) h
+    fault form before (words_from n (lines_of ((48 + core) ∷ (if ends then 10 else 32) ∷ rest)))
+    ≡ fault form (before + 1) (words_from (behind n ends) (lines_of rest))
+text_fault form core n before true rest h = ap (fault form before) (end_words core n rest h)
+    ∙ word_fault form core n before (words_from (n + 1) (lines_of rest)) h
+text_fault form core n before false rest h =
+    ap (λ lines. fault form before (words_from n lines)) (space_lines core rest h)
+    ∙ space_fault form core n before (lines_of rest) h
 
 text_steps : (form : Form) (core n : ℕ) (ends : Bool) (rest : List ℕ) → core < 10 →
-    steps form (words_from n (lines_of ((48 + core) ∷ (if ends then 10 else 32) ∷ rest))) ≡ plain core ∷ steps form (words_from (behind n ends) (lines_of rest))
-text_steps form core n true rest h = ap (steps form) (end_words core n rest h) ∙ word_steps form core n (words_from (n + 1) (lines_of rest)) h
-text_steps form core n false rest h = ap (λ lines. steps form (words_from n lines)) (space_lines core rest h) ∙ space_steps form core n (lines_of rest) h
+    steps form (words_from n (lines_of ((48 + core) ∷ (if ends then 10 else 32) ∷ rest)))
+    ≡ plain core ∷ steps form (words_from (behind n ends) (lines_of rest))
+text_steps form core n true rest h =
+    ap (steps form) (end_words core n rest h) ∙ word_steps form core n (words_from (n + 1) (lines_of rest)) h
+text_steps form core n false rest h =
+    ap (λ lines. steps form (words_from n lines)) (space_lines core rest h) ∙ space_steps form core n (lines_of rest) h
 
 -- what is wrong with a text that begins with such a word is wrong behind it
-pub digit_fault : (form : Form) (text rest : List ℕ) (core n before : ℕ) (ends : Bool) → BeginsWithDigit text core ends rest →
-    fault form before (words_from n (lines_of text)) ≡ fault form (before + 1) (words_from (behind n ends) (lines_of rest))
-digit_fault form text rest core n before ends h = ap (λ xs. fault form before (words_from n (lines_of xs))) h.1 ∙ text_fault form core n before ends rest h.0
+pub digit_fault : (form : Form) (text rest : List ℕ) (core n before : ℕ) (ends : Bool)
+    → BeginsWithDigit text core ends rest →
+    fault form before (words_from n (lines_of text))
+    ≡ fault form (before + 1) (words_from (behind n ends) (lines_of rest))
+digit_fault form text rest core n before ends h =
+    ap (λ xs. fault form before (words_from n (lines_of xs))) h.1 ∙ text_fault form core n before ends rest h.0
 
 -- and its steps are that of the word and those behind it
 pub digit_steps : (form : Form) (text rest : List ℕ) (core n : ℕ) (ends : Bool) → BeginsWithDigit text core ends rest →
     steps form (words_from n (lines_of text)) ≡ plain core ∷ steps form (words_from (behind n ends) (lines_of rest))
-digit_steps form text rest core n ends h = ap (λ xs. steps form (words_from n (lines_of xs))) h.1 ∙ text_steps form core n ends rest h.0
+digit_steps form text rest core n ends h =
+    ap (λ xs. steps form (words_from n (lines_of xs))) h.1 ∙ text_steps form core n ends rest h.0

@@ -1,5 +1,6 @@
 -- Which entries of a line are asked for.
-use Rattle.std.proofs.Common.{◌≡◌, ℕ, ◌*◌, ◌%◌, ◌^◌, ◌<◌, Bool, true, false, eqb, not, ◌&&◌, ◌||◌, List, refl, sym, ap, ◌∙◌, ⊎_elim, ◌⊎◌, inl, inr, subst}
+use Rattle.std.proofs.Common.{◌≡◌, ℕ, ◌*◌, ◌%◌, ◌^◌, ◌<◌, Bool, true, false, eqb, not, ◌&&◌, ◌||◌, List, refl, sym, ap}
+use Rattle.std.proofs.Common.{◌∙◌, ⊎_elim, ◌⊎◌, inl, inr, subst}
 use Rattle.std.proofs.Math.Logic.{∥∥₁_elim}
 use Rattle.std.proofs.Props.{props}
 use Rattle.std.proofs.lemmas.Bool.{cases_eq, eq-eqb}
@@ -35,7 +36,8 @@ pub passed : (es : List Entry) (line core : ℕ) (kind : Kind) (h : ℕ) (e : En
 passed es line core kind h e is f = fails (is_triple (entry_at es h) core kind line) (λ t.
     let s = stands (entry_at es h) core kind line t in
     never (eqb e.core core && same_kind e.kind kind)
-    (as_one (eqb e.core core) (same_kind e.kind kind) (eq-eqb e.core core (ap (λ x. x.core) is ∙ s.at_core)) (ap (λ k. same_kind k kind) (ap (λ x. x.kind) is ∙ s.at_kind) ∙ kind_itself kind))
+    (as_one (eqb e.core core) (same_kind e.kind kind) (eq-eqb e.core core (ap (λ x. x.core) is ∙ s.at_core))
+    (ap (λ k. same_kind k kind) (ap (λ x. x.kind) is ∙ s.at_kind) ∙ kind_itself kind))
     f)
 
 -- a bit that is set, and the others
@@ -67,7 +69,8 @@ either true b t = inl refl
 either false b t = inr t
 
 -- an entry that is asked for tells a core that is
-pub asked_there : (r : Rows) (line core : ℕ) (written : Bool) (h : ℕ) (e : Entry) → OnLine r.entries line h → e ≡ entry_at r.entries h
+pub asked_there : (r : Rows) (line core : ℕ) (written : Bool) (h : ℕ) (e : Entry) → OnLine r.entries line h
+    → e ≡ entry_at r.entries h
     → is_asked e core written ≡ true → asked (threaded_content r) written line core e.core ≡ true
 asked_there r line core written h e o is t =
     let w = both (not (eqb e.core core)) (not written || same_kind e.kind Write) t in
@@ -81,13 +84,21 @@ asked_there r line core written h e o is t =
       at_line = o.2;
     }))
 
-    by_kind : (k : Kind) → e.kind ≡ k → (lines.contains (lines_in r.entries e.core Read) line || lines.contains (lines_in r.entries e.core Write) line) ≡ true
-    by_kind Read k = or_left (lines.contains (lines_in r.entries e.core Read) line) (lines.contains (lines_in r.entries e.core Write) line) (there Read k)
-    by_kind Write k = or_right (lines.contains (lines_in r.entries e.core Read) line) (lines.contains (lines_in r.entries e.core Write) line) (there Write k)
+    by_kind : (k : Kind) → e.kind ≡ k
+        → (lines.contains (lines_in r.entries e.core Read) line
+        || lines.contains (lines_in r.entries e.core Write) line) ≡ true
+    by_kind Read k = or_left (lines.contains (lines_in r.entries e.core Read) line)
+        (lines.contains (lines_in r.entries e.core Write) line) (there Read k)
+    by_kind Write k = or_right (lines.contains (lines_in r.entries e.core Read) line)
+        (lines.contains (lines_in r.entries e.core Write) line) (there Write k)
 
-    by_written : (b : Bool) → not (eqb e.core core) ≡ true → (not b || same_kind e.kind Write) ≡ true → asked (threaded_content r) b line core e.core ≡ true
-    by_written true other kind = as_one (not (eqb e.core core)) (lines.contains (lines_in r.entries e.core Write) line) other (there Write (same_kinds e.kind Write kind))
-    by_written false other kind = as_one (not (eqb e.core core)) (lines.contains (lines_in r.entries e.core Read) line || lines.contains (lines_in r.entries e.core Write) line) other (by_kind e.kind refl)
+    by_written : (b : Bool) → not (eqb e.core core) ≡ true → (not b || same_kind e.kind Write) ≡ true
+        → asked (threaded_content r) b line core e.core ≡ true
+    by_written true other kind = as_one (not (eqb e.core core)) (lines.contains (lines_in r.entries e.core Write) line)
+        other (there Write (same_kinds e.kind Write kind))
+    by_written false other kind = as_one (not (eqb e.core core))
+        (lines.contains (lines_in r.entries e.core Read) line || lines.contains (lines_in r.entries e.core Write) line)
+        other (by_kind e.kind refl)
 
 pub record Asked (r : Rows) (line core : ℕ) (written : Bool) (k : ℕ) : Type 0 where
   pub place : ℕ
@@ -96,37 +107,45 @@ pub record Asked (r : Rows) (line core : ℕ) (written : Bool) (k : ℕ) : Type 
   pub core_is : (entry_at r.entries place).core ≡ k
 
 -- a core that is asked for has an entry that is
-pub asked_from : (r : Rows) (line core : ℕ) (written : Bool) (k : ℕ) → asked (threaded_content r) written line core k ≡ true → Asked r line core written k
+pub asked_from : (r : Rows) (line core : ℕ) (written : Bool) (k : ℕ)
+    → asked (threaded_content r) written line core k ≡ true → Asked r line core written k
 asked_from r line core written k = by_written written
   where
-    from : (b : Bool) (kind : Kind) → not (eqb k core) ≡ true → (not b || same_kind kind Write) ≡ true → lines.contains (lines_in r.entries k kind) line ≡ true → Asked r line core b k
+    from : (b : Bool) (kind : Kind) → not (eqb k core) ≡ true → (not b || same_kind kind Write) ≡ true
+        → lines.contains (lines_in r.entries k kind) line ≡ true → Asked r line core b k
     from b kind other wanted t =
         let p = place_of r.entries k kind line t in
         let s = stands (entry_at r.entries p.place) k kind line p.is in
         record {
           place = p.place;
           on = (p.below, s.is_held, s.at_line);
-          is = as_one (not (eqb (entry_at r.entries p.place).core core)) (not b || same_kind (entry_at r.entries p.place).kind Write)
+          is = as_one (not (eqb (entry_at r.entries p.place).core core))
+              (not b || same_kind (entry_at r.entries p.place).kind Write)
               (ap (λ c. not (eqb c core)) s.at_core ∙ other) (ap (λ c. not b || same_kind c Write) s.at_kind ∙ wanted);
           core_is = s.at_core;
         }
 
     by_written : (b : Bool) → asked (threaded_content r) b line core k ≡ true → Asked r line core b k
-    by_written true t = let w = both (not (eqb k core)) (lines.contains (lines_in r.entries k Write) line) t in from true Write w.0 refl w.1
+    by_written true t = let w = both (not (eqb k core)) (lines.contains (lines_in r.entries k Write) line) t in
+        from true Write w.0 refl w.1
     by_written false t =
-        let w = both (not (eqb k core)) (lines.contains (lines_in r.entries k Read) line || lines.contains (lines_in r.entries k Write) line) t in
+        let w = both (not (eqb k core))
+        (lines.contains (lines_in r.entries k Read) line || lines.contains (lines_in r.entries k Write) line) t in
         ⊎_elim
         (λ (s : lines.contains (lines_in r.entries k Read) line ≡ true). from false Read w.0 refl s)
         (λ (s : lines.contains (lines_in r.entries k Write) line ≡ true). from false Write w.0 refl s)
-        (either (lines.contains (lines_in r.entries k Read) line) (lines.contains (lines_in r.entries k Write) line) w.1)
+        (either (lines.contains (lines_in r.entries k Read) line)
+        (lines.contains (lines_in r.entries k Write) line) w.1)
 
 -- the mask at the end of a walk
 pub whole_mask : (r : Rows) → IsThreaded r → (line core : ℕ) (written : Bool) (at mask : ℕ) → at ≡ 0
-    → ((rank : ℕ → ℕ) (top : ℕ) → AreThreaded r rank top → (e : ℕ) → OnLine r.entries line e → is_asked (entry_at r.entries e) core written ≡ true
+    → ((rank : ℕ → ℕ) (top : ℕ) → AreThreaded r rank top → (e : ℕ) → OnLine r.entries line e
+    → is_asked (entry_at r.entries e) core written ≡ true
     → (bit mask (entry_at r.entries e).core ≡ true) ⊎ Ahead rank at e)
     → ((k : ℕ) → bit mask k ≡ true → asked (threaded_content r) written line core k ≡ true)
     → (k : ℕ) → bit mask k ≡ asked (threaded_content r) written line core k
-whole_mask r threaded line core written at mask z told sound k = same_test (bit mask k) (asked (threaded_content r) written line core k) (sound k) (λ t.
+whole_mask r threaded line core written at mask z told sound k =
+    same_test (bit mask k) (asked (threaded_content r) written line core k) (sound k) (λ t.
     let a = asked_from r line core written k t in
     ∥∥₁_elim threaded (hlevel props) (λ w. ⊎_elim
     (λ (b : bit mask (entry_at r.entries a.place).core ≡ true). sym (ap (bit mask) a.core_is) ∙ b)

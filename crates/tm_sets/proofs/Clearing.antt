@@ -1,5 +1,6 @@
 -- The first triple of a core goes.
-use Rattle.std.proofs.Common.{◌≡◌, ℕ, ◌+◌, ◌*◌, ◌<◌, ◌≤◌, true, false, cond, eqb, List, length, get_or, set, None, refl, sym, ap, ◌∙◌, arith}
+use Rattle.std.proofs.Common.{◌≡◌, ℕ, ◌+◌, ◌*◌, ◌<◌, ◌≤◌, true, false, cond, eqb, List, length, get_or, set, None, refl}
+use Rattle.std.proofs.Common.{sym, ap, ◌∙◌, arith}
 use Rattle.std.proofs.Math.Logic.{∥∥₁_elim}
 use Rattle.std.proofs.Math.Path.{fun_ext}
 use Rattle.std.proofs.Props.{props}
@@ -12,7 +13,8 @@ use Rattle.tm_sets.specs.declared.interface.Kind.{Kind}
 use Rattle.tm_sets.specs.declared.interface.Kind.TheVariants.{Write}
 use Rattle.tm_sets.specs.Content.{by_kind}
 use Rattle.tm_sets.specs.Row.{entry_at, lines_in, slot_among, unhooked}
-use Rattle.tm_sets.specs.Threaded.{Rows, OnLine, OnCore, after_on_line, before_on_line, after_on_core, IsThreaded, AreCounted, AreSized, fewer, if_read, if_written}
+use Rattle.tm_sets.specs.Threaded.{Rows, OnLine, OnCore, after_on_line, before_on_line, after_on_core, IsThreaded}
+use Rattle.tm_sets.specs.Threaded.{AreCounted, AreSized, fewer, if_read, if_written}
 use Rattle.tm_sets.proofs.Adding.{if_read_len, if_written_len, led, slot_kept, slot_present, slots_kept}
 use Rattle.tm_sets.proofs.Counting.{fails}
 use Rattle.tm_sets.proofs.Emptying.{leave_same, counted_left, some, pair_falls}
@@ -50,7 +52,8 @@ rows_without r core n = record r {
 head_moved : (heads : List ℕ) (line before after : ℕ) → line < length heads
     → Moved heads (cond (eqb before 0) (set heads line after) heads) line before after
 head_moved heads line before after b = record {
-  first = λ z. ap (λ t. get_or (cond t (set heads line after) heads) line 0) (eq-eqb before 0 z) ∙ get_or-set_same heads line after 0 b;
+  first = λ z. ap (λ t. get_or (cond t (set heads line after) heads) line 0) (eq-eqb before 0 z)
+      ∙ get_or-set_same heads line after 0 b;
   later = λ d. ap (λ t. get_or (cond t (set heads line after) heads) line 0) (ne_eqb before 0 d);
   other = λ l d. elim (eqb before 0) as (λ t. get_or (cond t (set heads line after) heads) l 0 ≡ get_or heads l 0) [
     | true ↦ get_or-set_other heads line l after 0 d
@@ -86,7 +89,8 @@ module _ (r : Rows) (core n : ℕ) (is_first : IsFirst r core n) where
   its_left = left r.entries n r.free its_place.0 after_core_in before_line_in after_line_in its_place.1
 
   -- the lines that stay have lower slots
-  falls : (e : ℕ) → OnCore r.entries core e → (e ≡ n → ⊥) → (entry_at r.entries e).kind ≡ Write → (entry_at r.entries n).kind ≡ Write
+  falls : (e : ℕ) → OnCore r.entries core e → (e ≡ n → ⊥) → (entry_at r.entries e).kind ≡ Write
+      → (entry_at r.entries n).kind ≡ Write
       → (entry_at r.entries e).slot < (entry_at r.entries n).slot
   falls e o d ke kn = ∥∥₁_elim threaded (hlevel props) (λ w.
       let l = w.2.cores core core_below in
@@ -101,9 +105,11 @@ module _ (r : Rows) (core n : ℕ) (is_first : IsFirst r core n) where
   writes_below = omega (arith, sized.writes, core_below)
 
   pub its_count : 1 ≤ by_kind (get_or r.reads core 0) (get_or r.writes core 0) (entry_at r.entries n).kind
-  its_count = some r (unhooked r.entries n r.free) n r.free core (entry_at r.entries n).kind its_left counted its_place.2 refl
+  its_count =
+      some r (unhooked r.entries n r.free) n r.free core (entry_at r.entries n).kind its_left counted its_place.2 refl
 
-  moved : Moved r.line_heads (heads_without r n) (entry_at r.entries n).line (before_on_line r.entries n) (after_on_line r.entries n)
+  moved : Moved r.line_heads (heads_without r n) (entry_at r.entries n).line (before_on_line r.entries n)
+      (after_on_line r.entries n)
   moved = head_moved r.line_heads (entry_at r.entries n).line (before_on_line r.entries n) (after_on_line r.entries n)
       (omega (arith, its_line_below, sized.lines))
 
@@ -117,7 +123,8 @@ module _ (r : Rows) (core n : ℕ) (is_first : IsFirst r core n) where
   ) ∣₁)
 
   pub take_counted : AreCounted (rows_without r core n)
-  take_counted = counted_left r (unhooked r.entries n r.free) n r.free core (entry_at r.entries n).kind its_left counted its_place.2 refl
+  take_counted = counted_left r (unhooked r.entries n r.free) n r.free core (entry_at r.entries n).kind its_left counted
+      its_place.2 refl
       core_below reads_below writes_below falls (heads_without r n) (after_on_core r.entries n) (n + 1)
 
   cores_len : length (set r.core_heads core (after_on_core r.entries n)) ≡ length r.core_heads
@@ -125,7 +132,8 @@ module _ (r : Rows) (core n : ℕ) (is_first : IsFirst r core n) where
 
   heads_len : length (heads_without r n) ≡ length r.line_heads
   heads_len = elim (eqb (before_on_line r.entries n) 0)
-      as (λ t. length (cond t (set r.line_heads (entry_at r.entries n).line (after_on_line r.entries n)) r.line_heads) ≡ length r.line_heads) [
+      as (λ t. length (cond t (set r.line_heads (entry_at r.entries n).line (after_on_line r.entries n)) r.line_heads)
+      ≡ length r.line_heads) [
         | true ↦ length-set r.line_heads (entry_at r.entries n).line (after_on_line r.entries n)
         | false ↦ refl
       ]
@@ -134,19 +142,24 @@ module _ (r : Rows) (core n : ℕ) (is_first : IsFirst r core n) where
   take_sized = record {
     entries = its_left.len ∙ sized.entries ∙ ap (λ x. x * (r.read_lines + r.write_lines)) (sym cores_len);
     lines = heads_len ∙ sized.lines;
-    reads = if_read_len (entry_at r.entries n).kind (fewer r.reads core) r.reads (length-set r.reads core _) ∙ sized.reads ∙ sym cores_len;
-    writes = if_written_len (entry_at r.entries n).kind (fewer r.writes core) r.writes (length-set r.writes core _) ∙ sized.writes ∙ sym cores_len;
+    reads = if_read_len (entry_at r.entries n).kind (fewer r.reads core) r.reads (length-set r.reads core _)
+        ∙ sized.reads ∙ sym cores_len;
+    writes = if_written_len (entry_at r.entries n).kind (fewer r.writes core) r.writes (length-set r.writes core _)
+        ∙ sized.writes ∙ sym cores_len;
   }
 
   pub take_falls : get_or r.reads core 0 + get_or r.writes core 0
       ≡ get_or (rows_without r core n).reads core 0 + get_or (rows_without r core n).writes core 0 + 1
-  take_falls = pair_falls r (unhooked r.entries n r.free) n r.free core (entry_at r.entries n).kind its_left counted its_place.2 refl
+  take_falls = pair_falls r (unhooked r.entries n r.free) n r.free core (entry_at r.entries n).kind its_left counted
+      its_place.2 refl
       reads_below writes_below
 
   -- the lines of other cores stay, with their slots
-  pub take_lines : (c : ℕ) (k : Kind) → (c ≡ core → ⊥) → lines_in (unhooked r.entries n r.free) c k ≡ lines_in r.entries c k
+  pub take_lines : (c : ℕ) (k : Kind) → (c ≡ core → ⊥)
+      → lines_in (unhooked r.entries n r.free) c k ≡ lines_in r.entries c k
   take_lines c k d =
-      leave_same r (unhooked r.entries n r.free) n r.free core (entry_at r.entries n).kind its_left counted its_place.2 refl c k (λ e _. d e)
+      leave_same r (unhooked r.entries n r.free) n r.free core (entry_at r.entries n).kind its_left counted its_place.2
+      refl c k (λ e _. d e)
 
   pub take_slots : (c l : ℕ) → (c ≡ core → ⊥) → slot_among (unhooked r.entries n r.free) c l ≡ slot_among r.entries c l
   take_slots c l d = slots_kept r.entries (unhooked r.entries n r.free) c (take_lines c Write d) (λ q t.
@@ -171,7 +184,8 @@ none_there r threaded core b z k l i d = fails (is_triple (entry_at r.entries i)
 
 pub none_left : (r : Rows) → IsThreaded r → (core : ℕ) → core < length r.core_heads → get_or r.core_heads core 0 ≡ 0
     → (k : Kind) → lines_in r.entries core k ≡ lines.empty
-none_left r threaded core b z k = lines.same_set nat_cmp_total lines.nat_cmp-IsAntisymmetric (lines_in r.entries core k) lines.empty
+none_left r threaded core b z k =
+    lines.same_set nat_cmp_total lines.nat_cmp-IsAntisymmetric (lines_in r.entries core k) lines.empty
     (λ q. absent r.entries core k q (none_there r threaded core b z k q) ∙ sym (lines.contains-empty nat_cmp q))
 
 -- and no slot

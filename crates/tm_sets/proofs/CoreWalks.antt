@@ -14,19 +14,22 @@ pub record CoreWalk (r : Rows) (core at visited : ℕ) : Type 0 where
   pub visits : (rank : ℕ → ℕ) (top : ℕ) → AreThreaded r rank top
       → visited + left_on (on_core r.entries core) (length r.entries) rank at ≤ length r.entries
 
-pub start_walk : (r : Rows) → IsThreaded r → (core : ℕ) → core < length r.core_heads → (at : ℕ) → at ≡ get_or r.core_heads core 0 → CoreWalk r core at 0
+pub start_walk : (r : Rows) → IsThreaded r → (core : ℕ) → core < length r.core_heads
+    → (at : ℕ) → at ≡ get_or r.core_heads core 0 → CoreWalk r core at 0
 start_walk r threaded core core_below at is = record {
   threaded = threaded;
   core_below = core_below;
   there = λ h i. ∥∥₁_elim threaded (hlevel props) (λ w. (w.2.cores core core_below).head_on h (sym is ∙ i));
-  visits = λ rank top t. omega (arith, count_le (λ e. on_core r.entries core e && is_ahead rank at e) (length r.entries));
+  visits =
+      λ rank top t. omega (arith, count_le (λ e. on_core r.entries core e && is_ahead rank at e) (length r.entries));
 }
 
 pub start_ahead : (r : Rows) (core : ℕ) → core < length r.core_heads → (at : ℕ) → at ≡ get_or r.core_heads core 0
     → (rank : ℕ → ℕ) (top : ℕ) → AreThreaded r rank top → (e : ℕ) → OnCore r.entries core e → Ahead rank at e
 start_ahead r core core_below at is rank top t e o =
     subst (λ k. Ahead rank k e) (sym is)
-    (all_ahead (OnCore r.entries core) (on_core r.entries core) (length r.entries) (core_tells r.entries core) (get_or r.core_heads core 0) (after_on_core r.entries) rank (t.cores core core_below) e o)
+    (all_ahead (OnCore r.entries core) (on_core r.entries core) (length r.entries) (core_tells r.entries core)
+    (get_or r.core_heads core 0) (after_on_core r.entries) rank (t.cores core core_below) e o)
 
 module _ {r : Rows} {core at visited : ℕ} (w : CoreWalk r core at visited) where
   open w use {threaded, core_below, there, visits}
@@ -37,22 +40,35 @@ module _ {r : Rows} {core at visited : ℕ} (w : CoreWalk r core at visited) whe
     at_place = there (at - 1) some
 
     one_less : (rank : ℕ → ℕ) (top : ℕ) → AreThreaded r rank top
-        → left_on (on_core r.entries core) (length r.entries) rank at ≡ left_on (on_core r.entries core) (length r.entries) rank (after_on_core r.entries (at - 1)) + 1
+        → left_on (on_core r.entries core) (length r.entries) rank at
+        ≡ left_on (on_core r.entries core) (length r.entries) rank (after_on_core r.entries (at - 1)) + 1
     one_less rank top t =
-        left_less (OnCore r.entries core) (on_core r.entries core) (length r.entries) (core_tells r.entries core) (get_or r.core_heads core 0) (after_on_core r.entries) rank (t.cores core core_below) at (at - 1) some at_place
+        left_less (OnCore r.entries core) (on_core r.entries core) (length r.entries) (core_tells r.entries core)
+        (get_or r.core_heads core 0) (after_on_core r.entries) rank (t.cores core core_below) at (at - 1) some at_place
 
-    pub next_walk : {next more : ℕ} → next ≡ after_on_core r.entries (at - 1) → more ≡ visited + 1 → CoreWalk r core next more
+    pub next_walk : {next more : ℕ} → next ≡ after_on_core r.entries (at - 1) → more ≡ visited + 1
+        → CoreWalk r core next more
     next_walk is one = record {
       threaded = threaded;
       core_below = core_below;
-      there = λ g i. ∥∥₁_elim threaded (hlevel props) (λ v. (v.2.cores core core_below).after_on (at - 1) g at_place (sym is ∙ i));
-      visits = λ rank top t. omega (arith, ap (left_on (on_core r.entries core) (length r.entries) rank) is, one_less rank top t, one, visits rank top t);
+      there = λ g i. ∥∥₁_elim threaded (hlevel props)
+          (λ v. (v.2.cores core core_below).after_on (at - 1) g at_place (sym is ∙ i));
+      visits = λ rank top t. omega (
+        arith,
+        ap (left_on (on_core r.entries core) (length r.entries) rank) is,
+        one_less rank top t,
+        one,
+        visits rank top t,
+      );
     }
 
     pub go_ahead : {next : ℕ} → next ≡ after_on_core r.entries (at - 1)
-        → (rank : ℕ → ℕ) (top : ℕ) → AreThreaded r rank top → (e : ℕ) → OnCore r.entries core e → (e ≡ at - 1 → ⊥) → Ahead rank at e → Ahead rank next e
+        → (rank : ℕ → ℕ) (top : ℕ) → AreThreaded r rank top → (e : ℕ) → OnCore r.entries core e → (e ≡ at - 1 → ⊥)
+        → Ahead rank at e → Ahead rank next e
     go_ahead is rank top t e o d a = subst (λ k. Ahead rank k e) (sym is)
-        (still (OnCore r.entries core) (on_core r.entries core) (length r.entries) (core_tells r.entries core) (get_or r.core_heads core 0) (after_on_core r.entries) rank (t.cores core core_below) (at - 1) e at_place o d (a.below (at - 1) some))
+        (still (OnCore r.entries core) (on_core r.entries core) (length r.entries) (core_tells r.entries core)
+        (get_or r.core_heads core 0) (after_on_core r.entries) rank (t.cores core core_below) (at - 1) e at_place o d
+        (a.below (at - 1) some))
 
     -- there is one more to be visited
     pub visits_less : visited < length r.entries

@@ -1,5 +1,6 @@
 -- Numbers that pass a test, counted.
-use Rattle.std.proofs.Common.{◌≡◌, ℕ, zero, suc, ◌+◌, ◌<◌, ◌≤◌, Bool, true, false, cond, eqb, not, ◌&&◌, refl, sym, ap, ◌∙◌, ⊎_elim, ◌⊎◌, inl, inr, arith}
+use Rattle.std.proofs.Common.{◌≡◌, ℕ, zero, suc, ◌+◌, ◌<◌, ◌≤◌, Bool, true, false, cond, eqb, not, ◌&&◌, refl, sym, ap}
+use Rattle.std.proofs.Common.{◌∙◌, ⊎_elim, ◌⊎◌, inl, inr, arith}
 use Rattle.std.proofs.lemmas.Bool.{cases_eq, eq-eqb, ne_eqb}
 use Rattle.tm_sets.specs.Count.{count_below}
 
@@ -53,7 +54,8 @@ count_all p (suc n) h =
     omega arith
 
 -- q passes one number fewer than p
-pub count_less : (p q : ℕ → Bool) (n k : ℕ) → k < n → p k ≡ true → q k ≡ false → ((i : ℕ) → i < n → (i ≡ k → ⊥) → p i ≡ q i) → count_below p n ≡ count_below q n + 1
+pub count_less : (p q : ℕ → Bool) (n k : ℕ) → k < n → p k ≡ true → q k ≡ false
+    → ((i : ℕ) → i < n → (i ≡ k → ⊥) → p i ≡ q i) → count_below p n ≡ count_below q n + 1
 count_less p q zero k b t f h = absurd (omega arith)
 count_less p q (suc n) k b t f h =
     let x = count_step p n in
@@ -99,7 +101,8 @@ pub count_matched : (m : ℕ) (n : ℕ) (p q : ℕ → Bool) (f : ℕ → ℕ)
     → ((i j : ℕ) → i < n → j < n → p i ≡ true → p j ≡ true → f i ≡ f j → i ≡ j)
     → ((c : ℕ) → c < m → q c ≡ true → (i : ℕ) × (i < n) × (p i ≡ true) × (f i ≡ c))
     → count_below p n ≡ count_below q m
-count_matched m zero p q f into apart met = count_zero p ∙ sym (count_none q m (λ c l. fails (q c) (λ t. let w = met c l t in let z = w.1 in omega arith)))
+count_matched m zero p q f into apart met =
+    count_zero p ∙ sym (count_none q m (λ c l. fails (q c) (λ t. let w = met c l t in let z = w.1 in omega arith)))
 count_matched m (suc n) p q f into apart met =
     let step = count_step p n in
     ⊎_elim
@@ -110,7 +113,11 @@ count_matched m (suc n) p q f into apart met =
     (ap (λ s. q (f n) && not s) (eq-eqb (f n) (f n) refl) ∙ and_false (q (f n)))
     (λ i l e. sym (ap (λ s. q i && not s) (ne_eqb i (f n) e) ∙ and_true (q i))) in
     let i = count_matched m n p (but q (f n)) f
-    (λ i l s. let v = into i (omega arith) s in (v.0, as_one (q (f i)) (not (eqb (f i) (f n))) v.1 (ap not (ne_eqb (f i) (f n) (λ e. let z = apart i n (omega arith) (omega arith) s t e in omega arith)))))
+    (λ i l s. let v = into i (omega arith) s in (
+      v.0,
+      as_one (q (f i)) (not (eqb (f i) (f n))) v.1
+          (ap not (ne_eqb (f i) (f n) (λ e. let z = apart i n (omega arith) (omega arith) s t e in omega arith))),
+    ))
     (λ i j l k. apart i j (omega arith) (omega arith))
     (λ d l s.
     let r = both (q d) (not (eqb d (f n))) s in

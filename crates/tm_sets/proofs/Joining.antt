@@ -1,5 +1,6 @@
 -- What becomes of the lists when a triple comes.
-use Rattle.std.proofs.Common.{◌≡◌, ℕ, ◌+◌, ◌<◌, true, false, cond, eqb, List, length, get_or, set, refl, sym, ap, ◌∙◌, ⊎_elim, ◌⊎◌, inl, inr, arith}
+use Rattle.std.proofs.Common.{◌≡◌, ℕ, ◌+◌, ◌<◌, true, false, cond, eqb, List, length, get_or, set, refl, sym, ap, ◌∙◌}
+use Rattle.std.proofs.Common.{⊎_elim, ◌⊎◌, inl, inr, arith}
 use Rattle.std.proofs.lemmas.Bool.{cases_eq, eq-eqb, ne_eqb}
 use Rattle.std.proofs.lemmas.List.{length-set}
 use Rattle.tm_sets.specs.declared.interface.Kind.{Kind}
@@ -7,12 +8,14 @@ use Rattle.tm_sets.specs.declared.interface.Kind.TheVariants.{Write}
 use Rattle.tm_sets.specs.declared.row.Entry.{Entry}
 use Rattle.tm_sets.specs.Ranked.{IsRanked}
 use Rattle.tm_sets.specs.Row.{entry_at}
-use Rattle.tm_sets.specs.Threaded.{Rows, held, OnLine, OnCore, IsFree, after_on_line, before_on_line, after_on_core, before_on_core, AreThreaded, AreCounted, AreSized}
+use Rattle.tm_sets.specs.Threaded.{Rows, held, OnLine, OnCore, IsFree, after_on_line, before_on_line, after_on_core}
+use Rattle.tm_sets.specs.Threaded.{before_on_core, AreThreaded, AreCounted, AreSized}
 use Rattle.tm_sets.proofs.Counting.{never}
 use Rattle.tm_sets.proofs.Ranks.{IsList, heads_set, kept_list, pushed_list, lost}
 
 -- a free place of the row stands for a triple now, and is before the two entries that were the first of its lists
-pub record Joined (es fs : List Entry) (n at_core : ℕ) (as_kind : Kind) (at_line new_slot core_head line_head : ℕ) : Type 0 where
+pub record Joined (es fs : List Entry) (n at_core : ℕ) (as_kind : Kind)
+    (at_line new_slot core_head line_head : ℕ) : Type 0 where
   pub len : length fs ≡ length es
   pub below : n < length es
   pub was_free : held es n ≡ false
@@ -49,7 +52,8 @@ old_rank rank n top e o = ap (λ t. cond t top (rank e)) (ne_eqb e n o)
 
 pub rank_below : (rank : ℕ → ℕ) (n top : ℕ) → ((e : ℕ) → rank e < top) → (e : ℕ) → with_rank rank n top e < top + 1
 rank_below rank n top h e = ⊎_elim
-    (λ (s : e ≡ n). let a : with_rank rank n top e ≡ top = ap (with_rank rank n top) s ∙ new_rank rank n top in omega arith)
+    (λ (s : e ≡ n). let a : with_rank rank n top e ≡ top = ap (with_rank rank n top) s ∙ new_rank rank n top in
+    omega arith)
     (λ (s : e ≡ n → ⊥). let a = old_rank rank n top e s in let b = h e in omega arith)
     (cases_eq e n)
 
@@ -68,7 +72,9 @@ record Pushed (es fs : List Entry) (n : ℕ) (field after before : Entry → ℕ
   pub other : (i : ℕ) → (i ≡ n → ⊥) → (head ≡ i + 1 → ⊥) → before (entry_at fs i) ≡ before (entry_at es i)
 
 module _ (r : Rows) (fs : List Entry) (n core : ℕ) (kind : Kind) (line : ℕ) (rank : ℕ → ℕ) (top : ℕ)
-    (j : Joined r.entries fs n core kind line (get_or r.writes core 0) (get_or r.core_heads core 0) (get_or r.line_heads line 0))
+    (j :
+    Joined r.entries fs n core kind line (get_or r.writes core 0) (get_or r.core_heads core 0)
+    (get_or r.line_heads line 0))
     (t : AreThreaded r rank top) where
   abbrev es : List Entry
   es = r.entries
@@ -81,11 +87,15 @@ module _ (r : Rows) (fs : List Entry) (n core : ℕ) (kind : Kind) (line : ℕ) 
   other_place e h s = never (held es e) h (ap (held es) s ∙ j.was_free)
 
   -- what becomes of the lists of a kind
-  module _ (field after before : Entry → ℕ) (its : ℕ) (heads : List ℕ) (count : ℕ) (in_heads : its < length heads) (below : its < count)
+  module _ (field after before : Entry → ℕ) (its : ℕ) (heads : List ℕ) (count : ℕ) (in_heads : its < length heads)
+      (below : its < count)
       (p : Pushed es fs n field after before its (get_or heads its 0))
-      (old : (v : ℕ) → v < count → IsList (On es field v) (get_or heads v 0) (λ e. after (entry_at es e)) (λ e. before (entry_at es e)) rank) where
+      (old :
+      (v : ℕ) → v < count
+      → IsList (On es field v) (get_or heads v 0) (λ e. after (entry_at es e)) (λ e. before (entry_at es e)) rank) where
     on_from : (v e : ℕ) → On es field v e → On fs field v e
-    on_from v e o = let d = other_place e o.1 in (omega (arith, o.0, j.len), j.old_held e d ∙ o.1, p.old_field e d ∙ o.2)
+    on_from v e o =
+        let d = other_place e o.1 in (omega (arith, o.0, j.len), j.old_held e d ∙ o.1, p.old_field e d ∙ o.2)
 
     on_to : (v e : ℕ) → On fs field v e → (e ≡ n → ⊥) → On es field v e
     on_to v e o d = (omega (arith, o.0, j.len), sym (j.old_held e d) ∙ o.1, sym (p.old_field e d) ∙ o.2)
@@ -96,7 +106,8 @@ module _ (r : Rows) (fs : List Entry) (n core : ℕ) (kind : Kind) (line : ℕ) 
     its_list : IsList (On fs field its) (n + 1) (λ e. after (entry_at fs e)) (λ e. before (entry_at fs e)) rank'
     its_list = pushed_list (On es field its) (On fs field its) (get_or heads its 0) n
         (λ e. after (entry_at es e)) (λ e. after (entry_at fs e)) rank rank'
-        (on_is its) (on_from its) (omega (arith, j.len, j.below), j.is_held, p.new_field) (λ o. other_place n o.1 refl) p.new_after
+        (on_is its) (on_from its) (omega (arith, j.len, j.below), j.is_held, p.new_field)
+        (λ o. other_place n o.1 refl) p.new_after
         (λ e o. p.old_after e (other_place e o.1)) (λ e o. old_rank rank n top e (other_place e o.1))
         (λ e o. omega (arith, new_rank rank n top, t.below_top e))
         p.new_before (λ e o. p.first e (other_place e o.1)) (λ e o. p.other e (other_place e o.1)) (old its below)
@@ -107,19 +118,24 @@ module _ (r : Rows) (fs : List Entry) (n core : ℕ) (kind : Kind) (line : ℕ) 
 
     other_list : (v : ℕ) → (v ≡ its → ⊥) → v < count
         → IsList (On fs field v) (get_or heads v 0) (λ e. after (entry_at fs e)) (λ e. before (entry_at fs e)) rank'
-    other_list v apart b = kept_list (On es field v) (On fs field v) (λ e. after (entry_at es e)) (λ e. after (entry_at fs e)) rank rank'
-        (λ e o. on_to v e o (off v e apart o)) (on_from v) (λ e o. p.old_after e (off v e apart o)) (λ e o. old_rank rank n top e (off v e apart o))
-        (λ e o. p.other e (off v e apart o) (λ i. apart (sym (on_to v e o (off v e apart o)).2 ∙ ((old its below).ranked.head_on e i).2))) (old v b)
+    other_list v apart b =
+        kept_list (On es field v) (On fs field v) (λ e. after (entry_at es e)) (λ e. after (entry_at fs e)) rank rank'
+        (λ e o. on_to v e o (off v e apart o)) (on_from v) (λ e o. p.old_after e (off v e apart o))
+        (λ e o. old_rank rank n top e (off v e apart o))
+        (λ e o. p.other e (off v e apart o)
+        (λ i. apart (sym (on_to v e o (off v e apart o)).2 ∙ ((old its below).ranked.head_on e i).2))) (old v b)
 
     lists : (v : ℕ) → v < count
-        → IsList (On fs field v) (get_or (set heads its (n + 1)) v 0) (λ e. after (entry_at fs e)) (λ e. before (entry_at fs e)) rank'
+        → IsList (On fs field v) (get_or (set heads its (n + 1)) v 0) (λ e. after (entry_at fs e))
+        (λ e. before (entry_at fs e)) rank'
     lists v = heads_set
         (λ v h. v < count → IsList (On fs field v) h (λ e. after (entry_at fs e)) (λ e. before (entry_at fs e)) rank')
         heads its (n + 1) in_heads (λ _. its_list) other_list v
 
   lines_now : AreSized r → line < r.line_count → (l : ℕ) → l < r.line_count
       → IsList (OnLine fs l) (get_or (set r.line_heads line (n + 1)) l 0) (after_on_line fs) (before_on_line fs) rank'
-  lines_now sized b = lists (λ e. e.line) (λ e. e.after_on_line) (λ e. e.before_on_line) line r.line_heads r.line_count (omega (arith, b, sized.lines)) b
+  lines_now sized b = lists (λ e. e.line) (λ e. e.after_on_line) (λ e. e.before_on_line) line r.line_heads r.line_count
+      (omega (arith, b, sized.lines)) b
       (record {
         new_field = j.line;
         old_field = j.old_line;
@@ -133,7 +149,8 @@ module _ (r : Rows) (fs : List Entry) (n core : ℕ) (kind : Kind) (line : ℕ) 
 
   cores_now : core < length r.core_heads → (c : ℕ) → c < length r.core_heads
       → IsList (OnCore fs c) (get_or (set r.core_heads core (n + 1)) c 0) (after_on_core fs) (before_on_core fs) rank'
-  cores_now b = lists (λ e. e.core) (λ e. e.after_on_core) (λ e. e.before_on_core) core r.core_heads (length r.core_heads) b b
+  cores_now b =
+      lists (λ e. e.core) (λ e. e.after_on_core) (λ e. e.before_on_core) core r.core_heads (length r.core_heads) b b
       (record {
         new_field = j.core;
         old_field = j.old_core;
@@ -155,16 +172,21 @@ module _ (r : Rows) (fs : List Entry) (n core : ℕ) (kind : Kind) (line : ℕ) 
   free_to e o = let z = j.len in let b = o.0 in (omega arith, sym (j.old_held e (free_other e o)) ∙ o.1)
 
   free_list : r.free ≡ n + 1 → IsRanked (IsFree fs) (after_on_core es n) (after_on_core fs) rank'
-  free_list is = lost (IsFree es) (IsFree fs) r.free n (after_on_core es) (after_on_core fs) (after_on_core es) (after_on_core fs) rank rank'
-      free_to (λ e o d. let z = j.len in let b = o.0 in (omega arith, j.old_held e d ∙ o.1)) (λ o. never (held fs n) j.is_held o.1) (t.free.head_on n is)
-      (λ e o i. let a = t.free.falls e n (free_to e o) i in let b = t.free.first e n (free_to e o) is in absurd (omega arith))
+  free_list is = lost (IsFree es) (IsFree fs) r.free n (after_on_core es) (after_on_core fs) (after_on_core es)
+      (after_on_core fs) rank rank'
+      free_to (λ e o d. let z = j.len in let b = o.0 in (omega arith, j.old_held e d ∙ o.1))
+      (λ o. never (held fs n) j.is_held o.1) (t.free.head_on n is)
+      (λ e o i. let a = t.free.falls e n (free_to e o) i in let b = t.free.first e n (free_to e o) is in
+      absurd (omega arith))
       (λ e o i. j.old_after_core e (free_other e o)) (λ e o. old_rank rank n top e (free_other e o)) t.free
       (after_on_core es n) (λ _. refl) (λ d. absurd (d is))
 
-  slots_fall : AreCounted r → (c e f : ℕ) → OnCore fs c e → OnCore fs c f → (entry_at fs e).kind ≡ Write → (entry_at fs f).kind ≡ Write
+  slots_fall : AreCounted r → (c e f : ℕ) → OnCore fs c e → OnCore fs c f → (entry_at fs e).kind ≡ Write
+      → (entry_at fs f).kind ≡ Write
       → rank' f < rank' e → (entry_at fs f).slot < (entry_at fs e).slot
   slots_fall counted c e f o p ke kf less = ⊎_elim
-      (λ (s : f ≡ n). let a : rank' f ≡ top = ap rank' s ∙ new_rank rank n top in let b = rank_below rank n top t.below_top e in
+      (λ (s : f ≡ n). let a : rank' f ≡ top = ap rank' s ∙ new_rank rank n top in
+      let b = rank_below rank n top t.below_top e in
       absurd (⊎_elim
       (λ (q : e ≡ n). let x : rank' e ≡ top = ap rank' q ∙ new_rank rank n top in omega arith)
       (λ (q : e ≡ n → ⊥). let x = old_rank rank n top e q in let y = t.below_top e in omega arith)
@@ -177,19 +199,22 @@ module _ (r : Rows) (fs : List Entry) (n core : ℕ) (kind : Kind) (line : ℕ) 
       (λ (q : e ≡ n).
       let same : c ≡ core = sym o.2 ∙ ap (λ i. (entry_at fs i).core) q ∙ j.core in
       let x : (entry_at fs e).slot ≡ get_or r.writes core 0 = ap (λ i. (entry_at fs i).slot) q ∙ j.slot in
-      let y : (entry_at es f).slot < get_or r.writes core 0 = counted.slot core f (was.0, was.1, was.2 ∙ same) kind_was in
+      let y : (entry_at es f).slot < get_or r.writes core 0 =
+      counted.slot core f (was.0, was.1, was.2 ∙ same) kind_was in
       omega arith)
       (λ (q : e ≡ n → ⊥).
       let x = j.old_slot e q in
       let u = old_rank rank n top e q in
       let v = old_rank rank n top f s in
-      let y : (entry_at es f).slot < (entry_at es e).slot = t.slots c e f (core_to c e o q) was (sym (j.old_kind e q) ∙ ke) kind_was (omega arith) in
+      let y : (entry_at es f).slot < (entry_at es e).slot =
+      t.slots c e f (core_to c e o q) was (sym (j.old_kind e q) ∙ ke) kind_was (omega arith) in
       omega arith)
       (cases_eq e n))
       (cases_eq f n)
 
   -- the rows are threaded again
-  pub threaded_joined : AreCounted r → AreSized r → (reads writes : List ℕ) → r.free ≡ n + 1 → core < length r.core_heads → line < r.line_count
+  pub threaded_joined : AreCounted r → AreSized r → (reads writes : List ℕ) → r.free ≡ n + 1
+      → core < length r.core_heads → line < r.line_count
       → AreThreaded (record r {
         entries = fs;
         core_heads = set r.core_heads core (n + 1);

@@ -1,5 +1,6 @@
 -- Rows of which all entries are free.
-use Rattle.std.proofs.Common.{◌≡◌, ℕ, suc, ◌+◌, ◌<◌, ◌≤◌, false, min, List, [], ◌∷◌, length, get_or, sum, None, refl, sym, ap, ◌∙◌, ⊎_elim, arith}
+use Rattle.std.proofs.Common.{◌≡◌, ℕ, suc, ◌+◌, ◌<◌, ◌≤◌, false, min, List, [], ◌∷◌, length, get_or, sum, None, refl}
+use Rattle.std.proofs.Common.{sym, ap, ◌∙◌, ⊎_elim, arith}
 use Rattle.std.proofs.Math.Path.{fun_ext}
 use Rattle.std.proofs.Math.ListN.{replicate}
 use Rattle.std.proofs.lemmas.Bool.{cases_lt}
@@ -19,7 +20,8 @@ use Rattle.tm_sets.proofs.Contents.{not_held}
 use Rattle.tm_sets.proofs.Counting.{never, count_none}
 use Rattle.tm_sets.proofs.Members.{absent, slot_nowhere}
 
-nothing_on : (on : ℕ → Type 0) (head : ℕ) (after rank : ℕ → ℕ) → head ≡ 0 → ((e : ℕ) → on e → ⊥) → IsRanked on head after rank
+nothing_on : (on : ℕ → Type 0) (head : ℕ) (after rank : ℕ → ℕ) → head ≡ 0 → ((e : ℕ) → on e → ⊥)
+    → IsRanked on head after rank
 nothing_on on head after rank z none = record {
   head_on = λ h i. absurd (omega arith);
   some = λ e o i. none e o;
@@ -31,7 +33,8 @@ nothing_on on head after rank z none = record {
   apart = λ e f o p i. absurd (none e o);
 }
 
-nothing_back : (on : ℕ → Type 0) (head : ℕ) (after before : ℕ → ℕ) → head ≡ 0 → ((e : ℕ) → on e → ⊥) → GoesBack on head after before
+nothing_back : (on : ℕ → Type 0) (head : ℕ) (after before : ℕ → ℕ) → head ≡ 0 → ((e : ℕ) → on e → ⊥)
+    → GoesBack on head after before
 nothing_back on head after before z none = record {
   first = λ h i. absurd (omega arith);
   back = λ e f o i. absurd (none e o);
@@ -77,14 +80,17 @@ module _ (r : Rows) (fresh : IsFresh r) where
     record {
       below_top = λ e. omega arith;
       lines = λ line b. nothing_on _ _ _ _ (line_heads line) (λ e o. never (held r.entries e) o.1 (none_held e o.0));
-      lines_back = λ line b. nothing_back _ _ _ _ (line_heads line) (λ e o. never (held r.entries e) o.1 (none_held e o.0));
+      lines_back =
+          λ line b. nothing_back _ _ _ _ (line_heads line) (λ e o. never (held r.entries e) o.1 (none_held e o.0));
       cores = λ core b. nothing_on _ _ _ _ (core_heads core) (λ e o. never (held r.entries e) o.1 (none_held e o.0));
-      cores_back = λ core b. nothing_back _ _ _ _ (core_heads core) (λ e o. never (held r.entries e) o.1 (none_held e o.0));
+      cores_back =
+          λ core b. nothing_back _ _ _ _ (core_heads core) (λ e o. never (held r.entries e) o.1 (none_held e o.0));
       free = record {
         head_on = λ h i. let b : h < length r.entries = omega arith in (b, none_held h b);
         some = λ e o i. let b = o.0 in omega arith;
         first = λ e h o i. let b = o.0 in omega arith;
-        after_on = λ e f o i. let b = o.0 in let a = after_is e b in let d : f < length r.entries = omega arith in (d, none_held f d);
+        after_on = λ e f o i. let b = o.0 in let a = after_is e b in let d : f < length r.entries = omega arith in
+            (d, none_held f d);
         falls = λ e f o i. let b = o.0 in let a = after_is e b in omega arith;
         goes_on = λ e f o p l i. let b = o.0 in let a = after_is e b in omega arith;
         next = λ e f g o p l i. let b = o.0 in let d = p.0 in let a = after_is e b in omega arith;
@@ -95,8 +101,10 @@ module _ (r : Rows) (fresh : IsFresh r) where
   ) ∣₁
 
   pub nothing_in : (core : ℕ) (kind : Kind) → lines_in r.entries core kind ≡ lines.empty
-  nothing_in core kind = lines.same_set nat_cmp_total lines.nat_cmp-IsAntisymmetric (lines_in r.entries core kind) lines.empty (λ q.
-      absent r.entries core kind q (λ i b. not_held (entry_at r.entries i) (none_held i b) core kind q) ∙ sym (lines.contains-empty nat_cmp q))
+  nothing_in core kind =
+      lines.same_set nat_cmp_total lines.nat_cmp-IsAntisymmetric (lines_in r.entries core kind) lines.empty (λ q.
+      absent r.entries core kind q (λ i b. not_held (entry_at r.entries i) (none_held i b) core kind q)
+      ∙ sym (lines.contains-empty nat_cmp q))
 
   pub fresh_counted : AreCounted r
   fresh_counted = record {
@@ -107,14 +115,21 @@ module _ (r : Rows) (fresh : IsFresh r) where
     writes = λ core. writes core ∙ sym (ap lines.len (nothing_in core Write) ∙ lines.len-empty nat_cmp);
     read_room = λ core. let z = reads core in omega arith;
     write_room = λ core. let z = writes core in omega arith;
-    all = omega (arith, sum_zeros r.reads reads, sum_zeros r.writes writes, count_none (held r.entries) (length r.entries) none_held);
+    all = omega (
+      arith,
+      sum_zeros r.reads reads,
+      sum_zeros r.writes writes,
+      count_none (held r.entries) (length r.entries) none_held,
+    );
     slot = λ core e o k. never (held r.entries e) o.1 (none_held e o.0);
   }
 
   no_slots : (core : ℕ) → slot_among r.entries core ≡ (λ _. None)
-  no_slots core = fun_ext (λ q. slot_nowhere r.entries core q (λ i b. not_held (entry_at r.entries i) (none_held i b) core Write q))
+  no_slots core =
+      fun_ext (λ q. slot_nowhere r.entries core q (λ i b. not_held (entry_at r.entries i) (none_held i b) core Write q))
 
-  pub fresh_content : (cores : ℕ) → length r.core_heads ≡ cores → threaded_content r ≡ empty_content cores r.line_count r.read_lines r.write_lines
+  pub fresh_content : (cores : ℕ) → length r.core_heads ≡ cores
+      → threaded_content r ≡ empty_content cores r.line_count r.read_lines r.write_lines
   fresh_content cores l = same_content _ _ nothing_in no_slots
       (λ i. record { room = by_kind r.read_lines r.write_lines; cores = l i; line_count = r.line_count })
 

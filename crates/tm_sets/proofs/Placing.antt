@@ -1,5 +1,6 @@
 -- Where a line stands among the lines of a set.
-use Rattle.std.proofs.Common.{◌≡◌, ℕ, ◌<◌, true, eqb, List, [], ◌∷◌, ◌++◌, length, get_or, sym, ap, ◌∙◌, arith, ◌||◌, Some, None}
+use Rattle.std.proofs.Common.{◌≡◌, ℕ, ◌<◌, true, eqb, List, [], ◌∷◌, ◌++◌, length, get_or, sym, ap, ◌∙◌, arith, ◌||◌}
+use Rattle.std.proofs.Common.{Some, None}
 use Rattle.std.proofs.lemmas.Bool.{eq-eqb, ne_eqb, eqb-true}
 use Rattle.std.proofs.lemmas.Grind.{common_steps}
 use Rattle.std.proofs.lemmas.List.Quantifiers.{position-Some}
@@ -18,14 +19,17 @@ use Rattle.tm_sets.proofs.Lists.{contains_cons}
 pub place_none : (xs : List ℕ) (l : ℕ) → ((i : ℕ) → i < length xs → get_or xs i 0 ≡ l → ⊥) → place_of xs l ≡ None
 place_none xs l h =
     let none : position_or_len (λ x. eqb x l) xs ≡ length xs =
-    position_or_len_is (λ x. eqb x l) xs (length xs) 0 (omega arith) (λ k b. ne_eqb (get_or xs k 0) l (h k b)) (λ b. absurd (omega arith)) in
+    position_or_len_is (λ x. eqb x l) xs (length xs) 0 (omega arith) (λ k b. ne_eqb (get_or xs k 0) l (h k b))
+    (λ b. absurd (omega arith)) in
     grind (arith, common_steps)
 
-pub place_found : (xs : List ℕ) (k l : ℕ) → k < length xs → get_or xs k 0 ≡ l → ((i : ℕ) → i < k → get_or xs i 0 ≡ l → ⊥)
+pub place_found : (xs : List ℕ) (k l : ℕ) → k < length xs → get_or xs k 0 ≡ l
+    → ((i : ℕ) → i < k → get_or xs i 0 ≡ l → ⊥)
     → place_of xs l ≡ Some k
 place_found xs k l b e h =
     let found : position_or_len (λ x. eqb x l) xs ≡ k =
-    position_or_len_is (λ x. eqb x l) xs k 0 (omega arith) (λ i c. ne_eqb (get_or xs i 0) l (h i c)) (λ _. eq-eqb (get_or xs k 0) l e) in
+    position_or_len_is (λ x. eqb x l) xs k 0 (omega arith) (λ i c. ne_eqb (get_or xs i 0) l (h i c))
+    (λ _. eq-eqb (get_or xs k 0) l e) in
     grind (arith, common_steps)
 
 -- a line that has a place stands there
@@ -58,12 +62,14 @@ place_known (x ∷ xs) l =
     turned a b = grind (arith, common_steps)
 
 -- places among the lines that cores have written are slots of them
-pub plain_are_slots : (reads writes : List BoundedLines) (line_count read_lines write_lines : ℕ) → length writes ≡ length reads
+pub plain_are_slots : (reads writes : List BoundedLines) (line_count read_lines write_lines : ℕ)
+    → length writes ≡ length reads
     → AreWithin writes write_lines → AreSlots (plain_content reads writes line_count read_lines write_lines)
 plain_are_slots reads writes line_count read_lines write_lines same within = record {
   there = λ core line b. place_known (line_set_at writes core).order line;
   below = λ core line slot b e.
       omega (arith, within core (omega arith), (place_in (line_set_at writes core).order line slot e).below);
   apart = λ core line other slot b e f.
-      sym (place_in (line_set_at writes core).order line slot e).is ∙ (place_in (line_set_at writes core).order other slot f).is;
+      sym (place_in (line_set_at writes core).order line slot e).is
+      ∙ (place_in (line_set_at writes core).order other slot f).is;
 }

@@ -1,5 +1,6 @@
 -- How far a walk along a list of a row has come: along a line's, or a core's.
-use Rattle.std.proofs.Common.{◌≡◌, ℕ, zero, suc, ◌+◌, ◌<◌, ◌≤◌, Bool, true, false, cond, eqb, leb, ◌&&◌, List, length, get_or, refl, sym, ap, ◌∙◌, ⊎_elim, ◌⊎◌, inl, inr, subst, arith}
+use Rattle.std.proofs.Common.{◌≡◌, ℕ, zero, suc, ◌+◌, ◌<◌, ◌≤◌, Bool, true, false, cond, eqb, leb, ◌&&◌, List, length}
+use Rattle.std.proofs.Common.{get_or, refl, sym, ap, ◌∙◌, ⊎_elim, ◌⊎◌, inl, inr, subst, arith}
 use Rattle.std.proofs.lemmas.Bool.{eq-eqb}
 use Rattle.tm_sets.specs.declared.row.Entry.{Entry}
 use Rattle.tm_sets.specs.Count.{count_below}
@@ -30,7 +31,8 @@ unfolding is_ahead
 ahead rank zero e t = never false t refl
 ahead rank (suc h) e t = record {
   some = λ z. omega arith;
-  below = λ i s. let same : i ≡ h = omega arith in let r : rank i ≡ rank h = ap rank same in let l = leb_true (rank e) (rank h) t in omega arith;
+  below = λ i s. let same : i ≡ h = omega arith in let r : rank i ≡ rank h = ap rank same in
+      let l = leb_true (rank e) (rank h) t in omega arith;
 }
 
 pub is_so : (rank : ℕ → ℕ) (at e : ℕ) → Ahead rank at e → is_ahead rank at e ≡ true
@@ -51,7 +53,8 @@ pub record Tells (list : ℕ → Type 0) (test : ℕ → Bool) (n : ℕ) : Type 
 abbrev pub left_on : (ℕ → Bool) → ℕ → (ℕ → ℕ) → ℕ → ℕ
 left_on test n rank at = count_below (λ e. test e && is_ahead rank at e) n
 
-module _ (list : ℕ → Type 0) (test : ℕ → Bool) (n : ℕ) (tells : Tells list test n) (head : ℕ) (after rank : ℕ → ℕ) (l : IsRanked list head after rank) where
+module _ (list : ℕ → Type 0) (test : ℕ → Bool) (n : ℕ) (tells : Tells list test n) (head : ℕ) (after rank : ℕ → ℕ)
+    (l : IsRanked list head after rank) where
   -- at the head all are ahead
   pub all_ahead : (e : ℕ) → list e → Ahead rank head e
   all_ahead e o = record { some = l.some e o; below = λ h i. l.first e h o i }
@@ -69,22 +72,31 @@ module _ (list : ℕ → Type 0) (test : ℕ → Bool) (n : ℕ) (tells : Tells 
       record { some = l.goes_on h e o p less; below = λ g i. l.next h e g o p less i }
 
   pub left_less : (at h : ℕ) → at ≡ h + 1 → list h → left_on test n rank at ≡ left_on test n rank (after h) + 1
-  left_less at h is o = count_less (λ e. test e && is_ahead rank at e) (λ e. test e && is_ahead rank (after h) e) n h (tells.below h o)
-      (as_one (test h) (is_ahead rank at h) (tells.on_test h o) (is_so rank at h (record { some = λ z. omega arith; below = λ i s. let same : i ≡ h = omega arith in let r : rank i ≡ rank h = ap rank same in omega arith })))
-      (fails (test h && is_ahead rank (after h) h) (λ t. passed h (ahead rank (after h) h (both (test h) (is_ahead rank (after h) h) t).1) o refl))
+  left_less at h is o =
+      count_less (λ e. test e && is_ahead rank at e) (λ e. test e && is_ahead rank (after h) e) n h (tells.below h o)
+      (as_one (test h) (is_ahead rank at h) (tells.on_test h o) (is_so rank at h (record {
+        some = λ z. omega arith;
+        below = λ i s. let same : i ≡ h = omega arith in let r : rank i ≡ rank h = ap rank same in omega arith;
+      })))
+      (fails (test h && is_ahead rank (after h) h)
+      (λ t. passed h (ahead rank (after h) h (both (test h) (is_ahead rank (after h) h) t).1) o refl))
       (λ e b d. same_test (test e && is_ahead rank at e) (test e && is_ahead rank (after h) e)
       (λ t. let w = both (test e) (is_ahead rank at e) t in
-      as_one (test e) (is_ahead rank (after h) e) w.0 (is_so rank (after h) e (still h e o (tells.on e b w.0) d ((ahead rank at e w.1).below h is))))
+      as_one (test e) (is_ahead rank (after h) e) w.0
+      (is_so rank (after h) e (still h e o (tells.on e b w.0) d ((ahead rank at e w.1).below h is))))
       (λ t. let w = both (test e) (is_ahead rank (after h) e) t in
       let a = ahead rank (after h) e w.1 in
       as_one (test e) (is_ahead rank at e) w.0 (is_so rank at e (record {
         some = λ z. omega arith;
         below = λ i s.
-            let same : i ≡ h = omega arith in let r : rank i ≡ rank h = ap rank same in let c = before e a in omega arith;
+            let same : i ≡ h = omega arith in let r : rank i ≡ rank h = ap rank same in
+            let c = before e a in omega arith;
       }))))
     where
       before : (e : ℕ) → Ahead rank (after h) e → rank e < rank h
-      before e a = ⊎_elim (λ (z : after h ≡ 0). absurd (a.some z)) (λ (w : (g : ℕ) × (after h ≡ g + 1)). let x = a.below w.0 w.1 in let y = l.falls h w.0 o w.1 in omega arith) (told (after h))
+      before e a = ⊎_elim (λ (z : after h ≡ 0). absurd (a.some z))
+          (λ (w : (g : ℕ) × (after h ≡ g + 1)). let x = a.below w.0 w.1 in let y = l.falls h w.0 o w.1 in omega arith)
+          (told (after h))
 
       passed : (e : ℕ) → Ahead rank (after h) e → list e → e ≡ h → ⊥
       passed e a p s = let x = before e a in let r : rank e ≡ rank h = ap rank s in omega arith
@@ -96,7 +108,8 @@ left_none test n rank at z = count_none (λ e. test e && is_ahead rank at e) n (
 pub line_tells : (es : List Entry) (line : ℕ) → Tells (OnLine es line) (on_line es line) (length es)
 line_tells es line = record {
   below = λ e o. o.0;
-  on = λ e b t. let w = both (held es e) (eqb (entry_at es e).line line) t in (b, w.0, equal (entry_at es e).line line w.1);
+  on = λ e b t. let w = both (held es e) (eqb (entry_at es e).line line) t in
+      (b, w.0, equal (entry_at es e).line line w.1);
   on_test = λ e o. as_one (held es e) (eqb (entry_at es e).line line) o.1 (eq-eqb (entry_at es e).line line o.2);
 }
 
@@ -106,6 +119,7 @@ on_core es core e = held es e && eqb (entry_at es e).core core
 pub core_tells : (es : List Entry) (core : ℕ) → Tells (OnCore es core) (on_core es core) (length es)
 core_tells es core = record {
   below = λ e o. o.0;
-  on = λ e b t. let w = both (held es e) (eqb (entry_at es e).core core) t in (b, w.0, equal (entry_at es e).core core w.1);
+  on = λ e b t. let w = both (held es e) (eqb (entry_at es e).core core) t in
+      (b, w.0, equal (entry_at es e).core core w.1);
   on_test = λ e o. as_one (held es e) (eqb (entry_at es e).core core) o.1 (eq-eqb (entry_at es e).core core o.2);
 }

@@ -77,7 +77,8 @@ places_told old new step steps before own few are made q =
     rw (are q, own) (fits q step.core steps few) in
     made q room
     ∙ ap (λ (k : PlaceCounts). if nat_eq step.place q then after_step step.outcome before k else k) (are q)
-    ∙ ap (λ (n : ℕ). if nat_eq step.place q then after_step step.outcome n (counts_of q steps) else counts_of q steps) own
+    ∙ ap (λ (n : ℕ). if nat_eq step.place q then after_step step.outcome n (counts_of q steps) else counts_of q steps)
+    own
     ∙ counts_step step steps q
 
 -- ---- sizes and causes
@@ -86,7 +87,8 @@ pub sizes_told : {S : Type 0} (size_of : Step → List Step → ℕ) (old new : 
     (steps : List Step) (size : ℕ) → size ≡ size_of step steps → length steps + 1 < 2 ^ 32
     → ((q : PlaceSize) → total_of same_size old q ≡ commits_of size_of q.place q.size steps)
     → ((q : PlaceSize) → total_of same_size old q + 1 < 2 ^ 64 → total_of same_size new q
-    ≡ counted (is_committed step.outcome && (nat_eq step.place q.place && nat_eq size q.size)) (total_of same_size old q))
+    ≡ counted (is_committed step.outcome && (nat_eq step.place q.place && nat_eq size q.size))
+    (total_of same_size old q))
     → (q : PlaceSize) → total_of same_size new q ≡ commits_of size_of q.place q.size (step ∷ steps)
 sizes_told size_of old new step steps size is few are made q =
     let test : ℕ → Bool = λ n. is_committed step.outcome && (nat_eq step.place q.place && nat_eq n q.size) in

@@ -77,7 +77,8 @@ pub rows_stop : (place : ℕ) (rows : List (PlaceSize × ℕ)) (i : ℕ) (row : 
 rows_stop place rows i row at h =
     ap (λ l. rows_of_place place l) (begins_at rows i row at) ∙ other_place place row (drop (i + 1) rows) h
 
-pub rows_end : (place : ℕ) (rows : List (PlaceSize × ℕ)) (i : ℕ) → length rows ≤ i → rows_of_place place (drop i rows) ≡ []
+pub rows_end : (place : ℕ) (rows : List (PlaceSize × ℕ)) (i : ℕ) → length rows ≤ i
+    → rows_of_place place (drop i rows) ≡ []
 rows_end place rows i h = ap (λ l. rows_of_place place l) (ends_at rows i h)
 
 -- how many sizes there are from an index on
@@ -85,7 +86,8 @@ pub sizes_more : (place : ℕ) (rows : List (PlaceSize × ℕ)) (i : ℕ) (row :
     → row.0.place ≡ place → length (sizes_of (rows_of_place place (drop i rows)))
     ≡ row.1 + length (sizes_of (rows_of_place place (drop (i + 1) rows)))
 sizes_more place rows i row at h =
-    ap (λ l. length (sizes_of l)) (rows_more place rows i row at h) ∙ one_row_more row (rows_of_place place (drop (i + 1) rows))
+    ap (λ l. length (sizes_of l)) (rows_more place rows i row at h)
+    ∙ one_row_more row (rows_of_place place (drop (i + 1) rows))
 
 -- the size at a rank among those from an index on
 pub size_here : (rows : List (PlaceSize × ℕ)) (i k : ℕ) (row : PlaceSize × ℕ) → slice_get rows i ≡ Some row → k < row.1
@@ -93,7 +95,8 @@ pub size_here : (rows : List (PlaceSize × ℕ)) (i k : ℕ) (row : PlaceSize ×
 size_here rows i k row at h =
     ap (λ l. slice_get (sizes_of l) k) (begins_at rows i row at) ∙ in_row row (drop (i + 1) rows) k h
 
-pub size_behind : (rows : List (PlaceSize × ℕ)) (i k : ℕ) (row : PlaceSize × ℕ) → slice_get rows i ≡ Some row → row.1 ≤ k
+pub size_behind : (rows : List (PlaceSize × ℕ)) (i k : ℕ) (row : PlaceSize × ℕ)
+    → slice_get rows i ≡ Some row → row.1 ≤ k
     → slice_get (sizes_of (drop i rows)) k ≡ slice_get (sizes_of (drop (i + 1) rows)) (k - row.1)
 size_behind rows i k row at h =
     ap (λ l. slice_get (sizes_of l) k) (begins_at rows i row at) ∙ behind_row row (drop (i + 1) rows) k h
@@ -115,7 +118,8 @@ held : (place : ℕ) (rows : List (PlaceSize × ℕ)) (k : ℕ) → k < length (
 held place rows k h =
     let n = prefix_len (λ (r : PlaceSize × ℕ). r.0.place == place) rows in
     ap (λ l. slice_get (sizes_of l) k) (split n rows)
-    ∙ ap (λ l. slice_get l k) (flat_map-append (λ (r : PlaceSize × ℕ). replicate r.1 r.0.size) (take n rows) (drop n rows))
+    ∙ ap (λ l. slice_get l k)
+    (flat_map-append (λ (r : PlaceSize × ℕ). replicate r.1 r.0.size) (take n rows) (drop n rows))
     ∙ front (sizes_of (take n rows)) (sizes_of (drop n rows)) k h
 
 -- so there is one at each of their ranks
@@ -130,7 +134,8 @@ pub spread_is : (place start behind count : ℕ) (rows : List (PlaceSize × ℕ)
     → AreInOrder (sizes_of (rows_of_place place rows))
     → count ≡ length (sizes_of (rows_of_place place rows)) → behind ≡ start + length (rows_of_place place rows)
     → spread.place ≡ place → spread.count ≡ count → Some spread.least ≡ slice_get (sizes_of rows) 0
-    → Some spread.median ≡ slice_get (sizes_of rows) (count / 2) → Some spread.most ≡ slice_get (sizes_of rows) (count - 1)
+    → Some spread.median ≡ slice_get (sizes_of rows) (count / 2)
+    → Some spread.most ≡ slice_get (sizes_of rows) (count - 1)
     → IsSpreadOf rows start place (spread, behind)
 spread_is place start behind count rows spread order counted ends at many least median most =
     let sizes = sizes_of (rows_of_place place rows) in
@@ -145,8 +150,10 @@ spread_is place start behind count rows spread order counted ends at many least 
         order = order.order;
         count = many ∙ counted;
         least = sym (held place rows 0 none_less) ∙ sym least;
-        median = sym (held place rows (length sizes / 2) half) ∙ ap (λ n. slice_get (sizes_of rows) (n / 2)) (sym counted) ∙ sym median;
-        most = sym (held place rows (length sizes - 1) last) ∙ ap (λ n. slice_get (sizes_of rows) (n - 1)) (sym counted) ∙ sym most;
+        median = sym (held place rows (length sizes / 2) half)
+            ∙ ap (λ n. slice_get (sizes_of rows) (n / 2)) (sym counted) ∙ sym median;
+        most = sym (held place rows (length sizes - 1) last)
+            ∙ ap (λ n. slice_get (sizes_of rows) (n - 1)) (sym counted) ∙ sym most;
       };
       behind = ends;
     }

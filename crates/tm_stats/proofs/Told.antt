@@ -32,7 +32,8 @@ pub record IsTold (same : AbortCause → AbortCause → Bool) (old new : RunCoun
   pub next : before + 1 < 2 ^ 64 → after ≡ open_after step.outcome before
   pub under_way : new.under_way ≡ slice_set old.under_way step.core after
   pub places : (q : ℕ) → Fits (counts_at old.places q) before → counts_at new.places q
-      ≡ (if nat_eq step.place q then after_step step.outcome before (counts_at old.places q) else counts_at old.places q)
+      ≡ (if nat_eq step.place q then after_step step.outcome before (counts_at old.places q)
+      else counts_at old.places q)
   pub causes : (q : PlaceCause) → total_of (same_cause same) old.causes q + 1 < 2 ^ 64
       → total_of (same_cause same) new.causes q
       ≡ counted
@@ -79,9 +80,11 @@ under_way_told old step steps after own full is are core small = by (cases_eq st
 -- the step's counts, where room was made
 pub told_counts : {same : AbortCause → AbortCause → Bool} {old room new : RunCounts} {step : Step}
     {before after length_now reads_now writes_now : ℕ} (steps : List Step) → length steps + 1 < 2 ^ 32
-    → AreCounts same old steps → SameCounts old room → IsTold same room new step before after length_now reads_now writes_now
+    → AreCounts same old steps → SameCounts old room
+    → IsTold same room new step before after length_now reads_now writes_now
     → AreCounts same new (step ∷ steps)
-told_counts {same} {old} {room} {new} {step} {before} {after} {length_now} {reads_now} {writes_now} steps few was kept told =
+told_counts {same} {old} {room} {new} {step} {before} {after} {length_now} {reads_now} {writes_now} steps
+    few was kept told =
     let are : AreCounts same room steps = same_counts same old room steps kept was in
     let own : before ≡ open_steps step.core steps = told.own ∙ are.under_way step.core told.core in
     let small : before + 1 < 2 ^ 64 = omega (arith, own, open_steps-le step.core steps) in record {

@@ -60,7 +60,8 @@ impl Conflicts {
         Ok(())
     }
 
-    /// Sorts the rows, those with the most first, and those with as many in the order of their keys, which changes no count.
+    /// Sorts the rows, those with the most first, and those with as many in the order of their keys, which changes no
+    /// count.
     pub fn sort(&mut self) -> Result<(), AllocError>
         ensures { (conflicts : List Conflict)
             → AreConflicts ⟦<Conflict as PartialEq>⟧.eq self.old conflicts

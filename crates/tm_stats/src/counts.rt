@@ -4,7 +4,8 @@ ghost use Rattle.std.specs.Prelude.{◌≡◌, ◌+◌, ◌^◌, ◌<◌, ◌&&�
 ghost use Rattle.std.specs.Prelude.{length, nat_eq};
 ghost use Rattle.indexmap.specs.IndexMap.{spare};
 ghost use Rattle.tm_stats.specs.Causes.{cause_counted};
-ghost use Rattle.tm_stats.specs.Counts.{is_aborted, is_committed, is_idle, is_outside, open_after, same_cause, same_size};
+ghost use Rattle.tm_stats.specs.Counts.{is_aborted, is_committed, is_idle, is_outside, open_after, same_cause};
+ghost use Rattle.tm_stats.specs.Counts.{same_size};
 ghost use Rattle.tm_stats.specs.Places.{Fits, after_step, counts_at};
 ghost use Rattle.tm_stats.specs.Tally.{counted, total_of};
 

@@ -12,7 +12,8 @@ const LIMITS: Limits = Limits {
 
 const PROGRAMS: u32 = 100_000;
 
-/// The next of the generator's numbers (Marsaglia, "Xorshift RNGs", Journal of Statistical Software 8, 2003: 13, 7, 17).
+/// The next of the generator's numbers (Marsaglia, "Xorshift RNGs", Journal of Statistical Software 8, 2003: 13, 7,
+/// 17).
 fn next(number: u64) -> u64 {
     let left = number ^ (number << 13);
     let right = left ^ (left >> 7);

@@ -1,4 +1,5 @@
-//! What a status tells, and the one that no run has. All others, and what they are for, the worked rows of `doc_tests` show.
+//! What a status tells, and the one that no run has. All others, and what they are for, the worked rows of `doc_tests`
+//! show.
 
 use tm_status::{Cause, causes, status};
 

@@ -34,8 +34,8 @@ pub fn fate_of(status: u32) -> Fate
     }
 }
 
-/// What a transaction came to that a step of this outcome ends, if it ends one. That of an abort from outside goes by the
-/// outcome, since the status alone may tell of a conflict.
+/// What a transaction came to that a step of this outcome ends, if it ends one. That of an abort from outside goes by
+/// the outcome, since the status alone may tell of a conflict.
 pub fn fate_at(outcome: Outcome) -> Option<Fate>
     ensures { result ≡ fate_at outcome }
 {

@@ -11,13 +11,14 @@ use crate::value::Value::{Length, Number, Word};
 use crate::window::RIGHT;
 use text_out::Out;
 
-// The width of a character in tenths of a pixel: of an instruction on one line, and of one on several, which is smaller.
+// The width of a character in tenths of a pixel: of an instruction on one line, and of one on several, which is
+// smaller.
 const CHARACTER: u32 = 62;
 
 const SMALL: u32 = 50;
 
-/// Draws the instruction of the step of this number of the row that begins there, which has room as far as the core's next step, or else the
-/// picture's edge: on one line where it fits.
+/// Draws the instruction of the step of this number of the row that begins there, which has room as far as the core's
+/// next step, or else the picture's edge: on one line where it fits.
 pub fn draw_instruction<O: Out>(
     svg: &mut Svg<'_, O>,
     sheet: &Sheet<'_>,

@@ -100,8 +100,8 @@ const TICKS: [Entry; 3] = [
 /// The height of the line for steps that are drawn one by one.
 pub const TICK_LINE: u32 = 20;
 
-/// Draws what the classes of a picture of few steps mean, below an axis at this height, with those of steps where these are drawn
-/// one by one, and ends the document.
+/// Draws what the classes of a picture of few steps mean, below an axis at this height, with those of steps where these
+/// are drawn one by one, and ends the document.
 pub fn draw_bar_legend<O: Out>(svg: &mut Svg<'_, O>, axis: u32, has_ticks: bool)
     requires { axis ≤ 30000 }
 {

@@ -4,8 +4,8 @@ use crate::value::Value;
 use std::fmt::{self, Write};
 use text_out::{Out, WriteFault};
 
-/// A picture in the making, which takes no memory. Once its device has failed nothing more is written, so that what draws need not
-/// ask, and the failure is told at the end.
+/// A picture in the making, which takes no memory. Once its device has failed nothing more is written, so that what
+/// draws need not ask, and the failure is told at the end.
 #[derive(Drop)]
 pub struct Svg<'o, O> {
     out: &'o mut O,
@@ -28,8 +28,8 @@ impl<'o, O: Out> Svg<'o, O> {
         }
     }
 
-    /// Writes a text with these values where it has `{}`, one after another. All of an element in one call is proved much sooner
-    /// than by `write!`, which is a call for each part.
+    /// Writes a text with these values where it has `{}`, one after another. All of an element in one call is proved
+    /// much sooner than by `write!`, which is a call for each part.
     pub fn put(&mut self, text: &str, values: &[Value<'_>]) {
         let mut rest = text;
         for value in values {

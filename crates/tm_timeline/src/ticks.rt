@@ -47,8 +47,8 @@ fn draw_rows<O: Out>(svg: &mut Svg<'_, O>, sheet: &Sheet<'_>) {
     }
 }
 
-// A step of the row that begins there: on it where the step is outside of transactions, and below the bar where it is one of a
-// transaction. Its title says what it was.
+// A step of the row that begins there: on it where the step is outside of transactions, and below the bar where it is
+// one of a transaction. Its title says what it was.
 fn draw_step<O: Out>(
     svg: &mut Svg<'_, O>,
     sheet: &Sheet<'_>,

@@ -67,7 +67,8 @@ impl Timeline {
         })
     }
 
-    /// One more variable that is drawn below the cores, where transactions are drawn one by one. Of more than 64 the first are.
+    /// One more variable that is drawn below the cores, where transactions are drawn one by one. Of more than 64 the
+    /// first are.
     pub fn add_variable(&mut self, alloc: Global, name: Label) -> Result<(), AllocError>
         ensures { SameSteps self.old self.new }
     {
@@ -148,7 +149,8 @@ impl Timeline {
         }
     }
 
-    /// Tells that the next step, of core `by`, hits the open transaction of another core. To be told before the step is.
+    /// Tells that the next step, of core `by`, hits the open transaction of another core. To be told before the step
+    /// is.
     pub fn hit(&mut self, victim: u8, by: u8, on: Option<LineUse>) -> Result<(), AllocError>
         ensures { SameSteps self.old self.new }
     {
@@ -180,8 +182,8 @@ impl Timeline {
         }
     }
 
-    /// Tells the next step: its core and what it was. Where transactions are drawn one by one, and the step is in the window, a
-    /// commit or an abort adds the bar of a transaction that came to this by this step.
+    /// Tells the next step: its core and what it was. Where transactions are drawn one by one, and the step is in the
+    /// window, a commit or an abort adds the bar of a transaction that came to this by this step.
     pub fn told(&mut self, core: u8, outcome: Outcome) -> Result<(), AllocError>
         ensures next { self.old.next + 1 < 2 ^ 32 → self.new.next ≡ self.old.next + 1 }
         ensures grows { Grows self.old self.new }

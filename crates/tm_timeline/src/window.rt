@@ -65,7 +65,8 @@ impl Window {
         u64::from(self.steps()) * 40 <= PIXELS
     }
 
-    /// The nearest place between the steps that are drawn: the window's first step, this one, or the one behind the last.
+    /// The nearest place between the steps that are drawn: the window's first step, this one, or the one behind the
+    /// last.
     pub fn clamped(&self, step: u32) -> u32
         ensures first { self.now.from ≤ result }
         ensures last { result ≤ self.now.to }

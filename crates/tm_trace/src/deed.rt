@@ -72,7 +72,8 @@ impl Before {
         })
     }
 
-    /// What the step did, from the machine behind it and its outcome: one that stopped, begun, ended, or was idle reached nothing.
+    /// What the step did, from the machine behind it and its outcome: one that stopped, begun, ended, or was idle
+    /// reached nothing.
     pub fn deed(&self, machine: &Machine, core: u8, outcome: &Outcome) -> Deed
         requires { core < length machine.now.views }
         ensures { IsDeed self.now machine.now core outcome.now result }

@@ -21,8 +21,8 @@ use text_out::{Out, WriteFault};
 use tm_hist::{interference_text, stop_text};
 use tm_model::Outcome;
 
-/// Writes the outcome line of a step, which goes on with what it did: the address, the label there or the nearest below, the
-/// instruction, and the numbers that were loaded and stored.
+/// Writes the outcome line of a step, which goes on with what it did: the address, the label there or the nearest
+/// below, the instruction, and the numbers that were loaded and stored.
 ///
 /// [`WriteFault::Write`], where the device failed: a beginning of the line was written.
 pub fn write_step<O: Out>(

@@ -48,7 +48,8 @@ module _ (asked : Asked) (outcome : Outcome) (number : ℕ) where
   pub other_is : (core : ℕ) (row : Watched) → (core ≡ asked.core → ⊥) →
       row_after core asked outcome number row ≡ row_if_other core asked outcome number row
   other_is core row apart =
-      ap (λ b. cond b (row_after_own row outcome number) (row_after_other row (hit_made (asked, outcome) core) asked number))
+      ap (λ b. cond b (row_after_own row outcome number)
+      (row_after_other row (hit_made (asked, outcome) core) asked number))
       (ne_eqb core asked.core apart)
       ∙ sym
       (ap (λ b. cond b row (row_after_other row (hit_made (asked, outcome) core) asked number))

@@ -1,5 +1,6 @@
 -- What a row becomes by one step is what the definitions say of a list with that step in front.
-use Rattle.std.proofs.Common.{◌≡◌, ℕ, suc, ◌==◌, ◌<◌, Bool, true, false, if◌then◌else◌, List, ◌∷◌, length, get_or, Option, refl, ap, ◌∙◌}
+use Rattle.std.proofs.Common.{◌≡◌, ℕ, suc, ◌==◌, ◌<◌, Bool, true, false, if◌then◌else◌, List, ◌∷◌, length, get_or}
+use Rattle.std.proofs.Common.{Option, refl, ap, ◌∙◌}
 use Rattle.std.specs.Option.{option_or}
 use Rattle.tm_model.specs.declared.outcome.Outcome.{Outcome}
 use Rattle.tm_why.specs.Types.{Asked, StandingHit, Watched}

@@ -73,8 +73,9 @@ impl Asked {
 impl Asked {
     ghost use Rattle.tm_why.specs.Asked.{IsAsked};
 
-    /// Becomes what the machine says of this core's next step: [`Asked::of`] in place, which for a step that hits nobody,
-    /// behind one that hits nobody, goes over no hits. `NoSuchCore` (42), and nothing is changed. Takes no memory.
+    /// Becomes what the machine says of this core's next step: [`Asked::of`] in place, which for a step that hits
+    /// nobody, behind one that hits nobody, goes over no hits. `NoSuchCore` (42), and nothing is changed. Takes no
+    /// memory.
     pub fn anew(&mut self, machine: &Machine, core: u8) -> Result<(), NoSuchCore>
         ensures exists { IsOk result ↔ (core < length machine.now.views) }
         ensures asked { OnOk result (IsAsked machine.now core self.new) }

@@ -17,20 +17,21 @@ use std::alloc::{AllocError, Global};
 use tm_hist::{Board, StepFault};
 use tm_model::{Outcome, Pick};
 
-/// A watch that was told of each step of a board's history. They are made once more on a board of their own, each under the event
-/// that its outcome tells of, at the cost of a step each. `AllocError`, where there was no memory for it.
+/// A watch that was told of each step of a board's history. They are made once more on a board of their own, each under
+/// the event that its outcome tells of, at the cost of a step each. `AllocError`, where there was no memory for it.
 pub fn watched(alloc: Global, board: &Board) -> Result<Watch, AllocError>
     ensures { IfOk result (λ watch. IsWatchOf board.now (length board.now.history) watch) }
 {
-    // A board that was made has limits within their ranges, and its history cores of its program: what is refused is memory.
+    // A board that was made has limits within their ranges, and its history cores of its program: what is refused is
+    // memory.
     match Board::new(alloc, board.program(), board.limits(), board.limit()) {
         Ok(opened) => follow(board, opened).map_err(|_| AllocError),
         Err(_) => Err(AllocError),
     }
 }
 
-/// Why the next step of a core is an abort, where it is one, if no event comes in its place. The watch was told of the board's
-/// whole history.
+/// Why the next step of a core is an abort, where it is one, if no event comes in its place. The watch was told of the
+/// board's whole history.
 pub fn reason_of(board: &Board, watch: &Watch, core: u8) -> Option<Reason>
     requires told { IsWatchOf board.now (length board.now.history) watch.now }
     requires exists { core < length board.now.machine.views }

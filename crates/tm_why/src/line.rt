@@ -17,8 +17,8 @@ use tm_hist::stop_text;
 use tm_model::AbortReason;
 use tm_sets::Kind;
 
-/// Writes why the next step of a core is an abort: the machine's reason, the hit that doomed its transaction, if one did, and when
-/// that began. Steps are counted from 1.
+/// Writes why the next step of a core is an abort: the machine's reason, the hit that doomed its transaction, if one
+/// did, and when that began. Steps are counted from 1.
 pub fn write_reason<O: Out>(core: u8, reason: &Reason, out: &mut O) -> Result<(), WriteFault>
     ensures { Writes (O.device out.old) (O.device out.new) (reason_line core reason.now) result }
 {

@@ -58,8 +58,8 @@ impl Watch {
         self.rows[asked.core as usize].begun
     }
 
-    /// Takes in a step: what the machine said of it, and what came of it, also where an event came in its place. Takes no
-    /// memory.
+    /// Takes in a step: what the machine said of it, and what came of it, also where an event came in its place. Takes
+    /// no memory.
     pub fn told(&mut self, asked: &Asked, outcome: Outcome)
         ensures { (steps : List Told) → length steps < 2 ^ 64 - 1 → IsWatch self.old steps →
             IsWatch self.new ((asked.now, outcome) ∷ steps) }

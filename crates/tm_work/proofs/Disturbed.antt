@@ -1,5 +1,6 @@
 -- What steps tell of events.
-use Rattle.std.proofs.Common.{◌≡◌, ℕ, List, [], ◌∷◌, ◌++◌, false, Option, Some, None, refl, sym, ap, subst, ⊎_elim, inl, inr}
+use Rattle.std.proofs.Common.{◌≡◌, ℕ, List, [], ◌∷◌, ◌++◌, false, Option, Some, None, refl, sym, ap, subst, ⊎_elim, inl}
+use Rattle.std.proofs.Common.{inr}
 use Rattle.std.proofs.Math.Seq.{drop-length}
 use Rattle.std.proofs.lemmas.List.Elements.{All-append, All-cons, All-nil, All-weaker}
 use Rattle.tm_hist.specs.Board.{ShownBoard, TellsAsShown}
@@ -84,20 +85,24 @@ drawn_nil Never = All-nil Untold
 drawn_nil (Rate one_in kinds) = All-nil (OfKinds kinds)
 drawn_nil Draw = tt
 
-drawn_append : (events : Events) (xs ys : List (ℕ × Outcome)) → TellDrawn events xs → TellDrawn events ys → TellDrawn events (xs ++ ys)
+drawn_append : (events : Events) (xs ys : List (ℕ × Outcome)) → TellDrawn events xs → TellDrawn events ys
+    → TellDrawn events (xs ++ ys)
 drawn_append Never xs ys first then = All-append Untold xs ys first then
 drawn_append (Rate one_in kinds) xs ys first then = All-append (OfKinds kinds) xs ys first then
 drawn_append Draw xs ys first then = tt
 
 drawn_alone : (events : Events) (xs : List (ℕ × Outcome)) → TellNoAbort xs → TellDrawn events xs
 drawn_alone Never xs h = h
-drawn_alone (Rate one_in kinds) xs h = All-weaker Untold (OfKinds kinds) (λ x e. subst (IsOfKinds kinds) (sym (none_told x.1 e)) tt) xs h
+drawn_alone (Rate one_in kinds) xs h =
+    All-weaker Untold (OfKinds kinds) (λ x e. subst (IsOfKinds kinds) (sym (none_told x.1 e)) tt) xs h
 drawn_alone Draw xs h = tt
 
-drawn_one : (events : Events) (kinds : Kinds) (e : Option Event) (c : ℕ) (o : Outcome) → AreDrawn events kinds → IsOfKinds kinds e → TellsOf e o → TellDrawn events ((c, o) ∷ [])
+drawn_one : (events : Events) (kinds : Kinds) (e : Option Event) (c : ℕ) (o : Outcome) → AreDrawn events kinds
+    → IsOfKinds kinds e → TellsOf e o → TellDrawn events ((c, o) ∷ [])
 drawn_one Never kinds e c o drawn of told =
     let none : e ≡ None = no_kind_comes e (subst (λ (k : Kinds). IsOfKinds k e) drawn of) in
-    All-cons Untold (c, o) [] (not_aborted o (told_none o (subst (λ (x : Option Event). TellsOf x o) none told))) (All-nil Untold)
+    All-cons Untold (c, o) [] (not_aborted o (told_none o (subst (λ (x : Option Event). TellsOf x o) none told)))
+    (All-nil Untold)
 drawn_one (Rate one_in asked) kinds e c o drawn of told =
     let is : IsOfKinds asked e = subst (λ (k : Kinds). IsOfKinds k e) drawn of in
     All-cons (OfKinds asked) (c, o) []
@@ -117,14 +122,19 @@ fresh_disturbed events given b same =
     (subst (λ l. TellDrawn events l) (sym (drop-length given.history)) (drawn_nil events))
 
 -- more steps without events
-pub alone_disturbed : (events : Events) (given b b' : ShownBoard) (c : ℕ) (was now : Progress) (made : ℕ) → GoesOn given b → AreStepsMade b b' c was now made → IsDisturbed events given b → IsDisturbed events given b'
+pub alone_disturbed : (events : Events) (given b b' : ShownBoard) (c : ℕ) (was now : Progress) (made : ℕ)
+    → GoesOn given b → AreStepsMade b b' c was now made → IsDisturbed events given b → IsDisturbed events given b'
 alone_disturbed events given b b' c was now made g steps before =
     let more = steps.alone given g in
-    subst (λ l. TellDrawn events l) (sym more.1) (drawn_append events (new_part given b) more.0 before (drawn_alone events more.0 more.2))
+    subst (λ l. TellDrawn events l) (sym more.1)
+    (drawn_append events (new_part given b) more.0 before (drawn_alone events more.0 more.2))
 
 -- one more step, under an event or under none
-pub step_disturbed : (events : Events) (kinds : Kinds) (e : Option Event) (given b b' : ShownBoard) (c : ℕ) (r : Receipt) → GoesOn given b → IsStepMade b b' c r → AreDrawn events kinds → IsOfKinds kinds e → TellsOf e r.outcome
+pub step_disturbed : (events : Events) (kinds : Kinds) (e : Option Event) (given b b' : ShownBoard) (c : ℕ)
+    (r : Receipt) → GoesOn given b → IsStepMade b b' c r → AreDrawn events kinds → IsOfKinds kinds e
+    → TellsOf e r.outcome
     → IsDisturbed events given b → IsDisturbed events given b'
 step_disturbed events kinds e given b b' c r g made drawn of told was =
     subst (λ l. TellDrawn events l) (sym (part_next given b b' c r g made))
-    (drawn_append events (new_part given b) ((c, r.outcome) ∷ []) was (drawn_one events kinds e c r.outcome drawn of told))
+    (drawn_append events (new_part given b) ((c, r.outcome) ∷ []) was
+    (drawn_one events kinds e c r.outcome drawn of told))

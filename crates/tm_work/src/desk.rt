@@ -4,7 +4,8 @@
 //! while they have the lock; [`Desk::close`] takes the board back and holds the seats against the ledger. How a
 //! step is made and noted stands in `desk_state`. Threads are started by `workers`: a desk knows of none.
 
-ghost use Rattle.std.specs.Prelude.{◌≡◌, ◌≢◌, ◌+◌, ◌<◌, ◌≤◌, true, ◌++◌, ◌∷◌, [], length, All, IfOk, IfErr, IfSome, IfNone};
+ghost use Rattle.std.specs.Prelude.{◌≡◌, ◌≢◌, ◌+◌, ◌<◌, ◌≤◌, true, ◌++◌, ◌∷◌, [], length, All, IfOk, IfErr, IfSome};
+ghost use Rattle.std.specs.Prelude.{IfNone};
 ghost use Rattle.std.specs.Prelude.{None};
 ghost use Rattle.tm_model.specs.declared.outcome.Outcome.{Outcome};
 ghost use Rattle.tm_model.specs.Runs.{event_told};
@@ -27,8 +28,8 @@ use tm_hist::Board;
 use tm_ledger::Ledger;
 use tm_pick::Interferer;
 
-// So many steps of all seats wait for the lock itself, which goes from one thread to the next once they sleep for it: a short
-// program is run in turns.
+// So many steps of all seats wait for the lock itself, which goes from one thread to the next once they sleep for it: a
+// short program is run in turns.
 const FIRST_STEPS: u64 = 1 << 16;
 
 /// A board under a lock, for threads that have a seat each. Only `open` takes memory, and only `turn`
@@ -61,8 +62,8 @@ impl<J: DeskIdentity> Desk<J> {
         Ok((Desk { state, first }, seats))
     }
 
-    /// One step of the seat's core, which is one more pair of the board's history; or nothing, exactly where the core is
-    /// stopped or the history full. So no step is idle. The receipt is then the seat's last one, and its index is
+    /// One step of the seat's core, which is one more pair of the board's history; or nothing, exactly where the core
+    /// is stopped or the history full. So no step is idle. The receipt is then the seat's last one, and its index is
     /// greater than that of the one before.
     pub fn turn(&self, rt: &impl Wait, seat: &mut Seat<J>) -> Option<Receipt>
         ensures core { seat.new.core ≡ seat.old.core }
@@ -89,8 +90,8 @@ impl<J: DeskIdentity> Desk<J> {
         self.held_for(rt, seat).turns(seat, most)
     }
 
-    /// Up to so many turns of the seat's core under one lock, each under the event that comes with it, and how many steps they
-    /// made: fewer only where the core stopped or the history is full. Without events it is `turns`.
+    /// Up to so many turns of the seat's core under one lock, each under the event that comes with it, and how many
+    /// steps they made: fewer only where the core stopped or the history is full. Without events it is `turns`.
     pub fn turns_under(
         &self,
         rt: &impl Wait,
@@ -124,9 +125,9 @@ impl<J: DeskIdentity> Desk<J> {
     }
 
     /// The board, with what the seats' turns made of it. Its history goes on from the one that the board had when the
-    /// desk was opened, its machine is the run of it, each outcome is the owed one, each abort from outside of the program is
-    /// of the events that turns may come under, and what these seats say is so. Of a core whose seat is not handed in, no
-    /// contract says how many of the steps are its own.
+    /// desk was opened, its machine is the run of it, each outcome is the owed one, each abort from outside of the
+    /// program is of the events that turns may come under, and what these seats say is so. Of a core whose seat is not
+    /// handed in, no contract says how many of the steps are its own.
     pub fn close(self, seats: Vec<Seat<J>>) -> Board
         ensures goes_on { GoesOn J.given result }
         ensures events { IsDisturbed J.events J.given result }

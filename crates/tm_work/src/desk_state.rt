@@ -101,8 +101,8 @@ impl<J: DeskIdentity> DeskState<J> {
         Some(receipt)
     }
 
-    // Up to so many turns of a seat, and how many made a step: fewer where one made none. The ledger hears of them once, at
-    // the end.
+    // Up to so many turns of a seat, and how many made a step: fewer where one made none. The ledger hears of them
+    // once, at the end.
     pub(crate) fn turns(&mut self, seat: &mut Seat<J>, most: u32) -> u32
         ensures core { seat.new.core ≡ seat.old.core }
         ensures most { result ≤ most }
@@ -185,8 +185,8 @@ impl<J: DeskIdentity> DeskState<J> {
     }
 }
 
-// Up to so many steps of a core with this progress, which goes on with them, and how many were made: fewer where the core
-// is stopped or the history full.
+// Up to so many steps of a core with this progress, which goes on with them, and how many were made: fewer where the
+// core is stopped or the history full.
 fn make_steps(board: &mut Board, core: u8, progress: &mut Progress, most: u32) -> u32
     requires { core < length board.old.program.entries }
     ensures most { result ≤ most }

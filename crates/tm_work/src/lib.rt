@@ -4,11 +4,11 @@
 //! history of the board is a list of whole steps in one order, whatever the threads did. Promised: the board that comes
 //! back is the run of its history, each outcome the owed one, and what each seat and each report says of its core is
 //! so; each abort from outside of the program is of the kinds of the plan, and without events there is none.
-//! `run_workers` and `run_steadily` start a worker a core. No clause says which thread comes first, that a turn returns,
-//! or that an event comes.
+//! `run_workers` and `run_steadily` start a worker a core. No clause says which thread comes first, that a turn
+//! returns, or that an event comes.
 //!
-//! It stands on `tm_hist` (boards and their histories), on `tm_ledger` (what a worker knows of its own line while others
-//! write theirs) and on `tm_pick` (which events come).
+//! It stands on `tm_hist` (boards and their histories), on `tm_ledger` (what a worker knows of its own line while
+//! others write theirs) and on `tm_pick` (which events come).
 #![tactic(auto)]
 
 mod desk;

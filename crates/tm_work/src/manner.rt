@@ -104,8 +104,8 @@ impl Burst {
     }
 }
 
-/// Several steps under one lock, each under the event that a plan has for it, and a meeting with the other workers before
-/// the first ones. A watch hears of them now and then.
+/// Several steps under one lock, each under the event that a plan has for it, and a meeting with the other workers
+/// before the first ones. A watch hears of them now and then.
 #[derive(Drop)]
 pub(crate) struct Steady<'a, W: Watch> {
     burst: Burst,

@@ -22,9 +22,9 @@ const OVER: u64 = 1 << 32;
 /// A meeting of workers before their first steps and between them, so that these steps lie close together in time. A
 /// worker that lets a lock go mostly has it again before another wakes, and a short program would be over by then.
 ///
-/// Arrivals are counted off in rounds of as many as there are workers, and who arrives waits until its round is full. It
-/// looks a number of times only, so that nobody waits for long for a thread that does not run; then the meeting is over
-/// for all. So no clause says that workers met.
+/// Arrivals are counted off in rounds of as many as there are workers, and who arrives waits until its round is full.
+/// It looks a number of times only, so that nobody waits for long for a thread that does not run; then the meeting is
+/// over for all. So no clause says that workers met.
 #[derive(Drop)]
 pub(crate) struct Meeting {
     // How many still come to it: the workers, and who starts them.

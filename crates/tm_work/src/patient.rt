@@ -8,10 +8,12 @@ use std::sync::atomic::AtomicU64;
 use std::sync::{Mutex, MutexGuard, Wait};
 use std::time::Duration;
 
-// How often a thread looks before it rests: for a few microseconds, in which whoever has the lock lets it go more than once.
+// How often a thread looks before it rests: for a few microseconds, in which whoever has the lock lets it go more than
+// once.
 const LOOKS: u32 = 64;
 
-// How long a rest is for each of the threads, in microseconds: so threads come to look as often, however many there are.
+// How long a rest is for each of the threads, in microseconds: so threads come to look as often, however many there
+// are.
 const REST: u64 = 16;
 
 // Of 64 threads so many rests take some seventy milliseconds.
@@ -19,10 +21,10 @@ const MOST_RESTS: u32 = 64;
 
 /// A value under a lock that each of some threads takes over and over, for about a microsecond.
 ///
-/// A thread that waits for a [`Mutex`] sleeps until it is woken, and after two such sleeps the lock is left to it. So once
-/// threads sleep, the lock goes from one to the next, and each time it is let go costs a call of the system and a switch of
-/// threads, several times what is done under it. Who waits for `take` looks for a moment, rests, and looks again, while
-/// whoever has the lock goes on undisturbed.
+/// A thread that waits for a [`Mutex`] sleeps until it is woken, and after two such sleeps the lock is left to it. So
+/// once threads sleep, the lock goes from one to the next, and each time it is let go costs a call of the system and a
+/// switch of threads, several times what is done under it. Who waits for `take` looks for a moment, rests, and looks
+/// again, while whoever has the lock goes on undisturbed.
 #[derive(Drop)]
 pub(crate) struct PatientLock<T: Drop> {
     value: Mutex<T>,

@@ -59,8 +59,8 @@ type Handles<J> = Vec<PromisedHandle<Seat<J>, Job>>;
 ///
 /// [`WorkFault::NoMemory`] (61): no worker was started, and the board is as it was. [`WorkFault::SpawnRefused`] (60):
 /// the workers of the cores below this one ran by these rules, and those of the cores above it made no step. Nor did
-/// this core; but no contract says so, since its seat is gone with the thread that was not made. No step is aborted from
-/// outside of the program.
+/// this core; but no contract says so, since its seat is gone with the thread that was not made. No step is aborted
+/// from outside of the program.
 pub fn run_workers<G: Gate, R: Threads + Wait + Sync>(
     rt: &R,
     alloc: Global,

@@ -38,8 +38,8 @@ const LOOKS: u32 = 100_000_000;
 // JMP to itself.
 const SPINS: [u8; 2] = [0xeb, 0xfe];
 
-// XBEGIN at 100h with fallback 115h, a load of [1000h], INC EAX, a store to [1000h], XEND at 111h, and HLT at 114h and at
-// 115h; then, at 116h, a store of the byte 7 to [1000h].
+// XBEGIN at 100h with fallback 115h, a load of [1000h], INC EAX, a store to [1000h], XEND at 111h, and HLT at 114h and
+// at 115h; then, at 116h, a store of the byte 7 to [1000h].
 const INCREMENT: [u8; 29] = [
     0xc7, 0xf8, 0x0f, 0, 0, 0, 0xa1, 0, 0x10, 0, 0, 0x40, 0xa3, 0, 0x10, 0, 0, 0x0f, 0x01, 0xd5,
     0xf4, 0xf4, 0xc6, 0x05, 0, 0x10, 0, 0, 7,
@@ -496,7 +496,8 @@ impl Watch for Listener {
     }
 }
 
-// What workers with several steps a lock do; refused as those of `three_workers` may be. They are too short for a watch.
+// What workers with several steps a lock do; refused as those of `three_workers` may be. They are too short for a
+// watch.
 fn three_steady_workers<R: Threads + Wait + Abort + Sync>(
     rt: &R,
     alloc: Global,
@@ -580,8 +581,8 @@ fn steady_workers_fill_the_history(rt: HostRuntime) -> Result<(), Fail> {
     Ok(())
 }
 
-// Each step comes under an interrupt, so that the transaction is aborted at its first instruction, and its fallback path is
-// run, which nothing else reaches.
+// Each step comes under an interrupt, so that the transaction is aborted at its first instruction, and its fallback
+// path is run, which nothing else reaches.
 #[test]
 fn events_reach_the_fallback_path(rt: HostRuntime) -> Result<(), Fail> {
     let board = board_of(rt.alloc(), &INCREMENT, &[0x100], 100)?;

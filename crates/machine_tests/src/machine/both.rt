@@ -1,5 +1,5 @@
-//! Runs over both representations of the sets: what each step comes to, and what is shown and told before and behind it, is the
-//! same. What that is over the directory, the worked rows of `doc_tests` show.
+//! Runs over both representations of the sets: what each step comes to, and what is shown and told before and behind
+//! it, is the same. What that is over the directory, the worked rows of `doc_tests` show.
 
 ghost use Rattle.std.specs.Prelude.{◌≤◌};
 
@@ -10,8 +10,8 @@ use std::process::Abort;
 use tm_core::{Limits, Machine, transactions_are_as_they_went};
 use tm_sets::{Kind, PlainSets};
 
-/// Runs, one a line: the code and the entries of the cores in hex, how many lines each may read and write, and the cores that
-/// step.
+/// Runs, one a line: the code and the entries of the cores in hex, how many lines each may read and write, and the
+/// cores that step.
 const RUNS: &str = "\
 c7f80f000000a10010000040a3001000000f01d5f4f4; 100 100; 512 512; 0 0 1 1 0 0 0 1\n\
 c7f80f000000a10010000040a3001000000f01d5f4f4; 100 100; 512 512; 0 0 0 0 1 1 0 1 1 1\n\
@@ -166,8 +166,8 @@ fn show_alike(
     }
 }
 
-/// Both tell the same of a core's next step before it is made: why it is an abort, whom it hits and on which line. And both
-/// tell how large its sets are.
+/// Both tell the same of a core's next step before it is made: why it is an abort, whom it hits and on which line. And
+/// both tell how large its sets are.
 fn tell_alike(rt: &impl Abort, listed: &Machine, plain: &Machine<PlainSets>, core: u8) {
     assert_eq!(rt; listed.abort_reason(core), plain.abort_reason(core));
     assert_eq!(rt; listed.counts(core), plain.counts(core));

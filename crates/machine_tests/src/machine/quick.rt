@@ -85,8 +85,8 @@ fn asked(rt: &impl Abort, alloc: Global, code: &[u8]) -> Answered {
 }
 
 /// Code in hex, and what each call answers at it, as it is printed. The code is test eax, eax; mov eax, [1000h];
-/// mov [1000h], eax; inc dword [1000h]; inc dword [100h], into the code; mov eax, [2000h], past the memory's end, where whoever
-/// tells what it loads has asked before where that lies; hlt; xend; mul ebx.
+/// mov [1000h], eax; inc dword [1000h]; inc dword [100h], into the code; mov eax, [2000h], past the memory's end, where
+/// whoever tells what it loads has asked before where that lies; hlt; xend; mul ebx.
 const ANSWERS: &str = "\
 85c0; Answered { ran: Whole, told: Whole(Touched { load: None, store: None }), load: None, store: false, \
 store_told: None, inside: true, whole: true, access: None, with_value: None }\n\

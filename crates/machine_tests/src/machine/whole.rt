@@ -12,8 +12,8 @@ use tm_model::Outcome;
 use tm_sets::Kind;
 
 /// Runs in the form of those of `both`, each of which has one transaction that is made at once: beside a core that is
-/// open, and in place, where there may be limits just above four lines an instruction, a part of a store that is loaded,
-/// nine loads, and 31 stores.
+/// open, and in place, where there may be limits just above four lines an instruction, a part of a store that is
+/// loaded, nine loads, and 31 stores.
 const WHOLE: &str = "\
 c7f80f000000a10010000040a3001000000f01d5f4f4; 100 100; 512 512; 0 0 0 0 0 1 1\n\
 c7f80f000000a10010000040a3001000000f01d5f4f4; 100 100; 512 512; 1 1 0 0 0 0 0 1\n\
@@ -33,8 +33,8 @@ c7f80000000050580f01d5; 100; 512 512; 0 0 0 0 0\n\
 c7f8000000000f01d5f4; 100; 512 512; 0 0 0 0 0\n";
 
 /// Runs in which none is: a limit below sixteen lines, and below 32 beside an open core; a step missing, and fewer than
-/// five left; beside an open core a part of a store loaded, and nine loads; 32 stores, a store into code, a nested one, and
-/// one that stores and aborts.
+/// five left; beside an open core a part of a store loaded, and nine loads; 32 stores, a store into code, a nested one,
+/// and one that stores and aborts.
 const PIECEMEAL: &str = "\
 c7f80f000000a10010000040a3001000000f01d5f4f4; 100; 512 15; 0 0 0 0 0\n\
 c7f80f000000a10010000040a3001000000f01d5f4f4; 100; 15 512; 0 0 0 0 0\n\
@@ -51,8 +51,8 @@ c7f800000000c7050010000044332211a3000100000f01d5; 100; 512 512; 0 0 0 0 0\n\
 c7f800000000c7f8000000000f01d50f01d5; 100; 512 512; 0 0 0 0 0\n\
 c7f800000000c7050010000044332211c6f8ab; 100; 512 512; 0 0 0 0 0\n";
 
-/// Runs in which three instructions are made at once on registers: to the HLT, while another core is open, as far as the core's
-/// steps go, and up to a load.
+/// Runs in which three instructions are made at once on registers: to the HLT, while another core is open, as far as
+/// the core's steps go, and up to a load.
 const ON_REGISTERS: &str = "\
 404349f4; 100; 512 512; 0 0 0 0\n\
 404349f4c7f800000000a1001000000f01d5; 100 104; 512 512; 1 1 0 0 0 0 1\n\

@@ -1,4 +1,5 @@
-//! Sessions whose devices end or fail, and whose memory is refused: what was answered, and the board that is given back.
+//! Sessions whose devices end or fail, and whose memory is refused: what was answered, and the board that is given
+//! back.
 
 use super::{board, no_names};
 use debug_command::Manner;
@@ -93,8 +94,8 @@ fn an_input_ends_or_fails(rt: HostRuntime) {
     }
 }
 
-// A session over these lines, with room for so many steps, writes just this much, all of it or not, and its board has made so many
-// of them. Answers how many bytes of the lines are left.
+// A session over these lines, with room for so many steps, writes just this much, all of it or not, and its board has
+// made so many of them. Answers how many bytes of the lines are left.
 fn cut<R: Abort + Wait>(
     rt: &R,
     alloc: Global,
@@ -182,8 +183,8 @@ fn a_spoken_output_is_cut(rt: HostRuntime) {
     }
 }
 
-// With ample memory the sessions are served. Where an allocation is refused one ends at the line that wanted memory, `sets` or
-// `back`: `rt try` has the option `--fail-alloc` for that.
+// With ample memory the sessions are served. Where an allocation is refused one ends at the line that wanted memory,
+// `sets` or `back`: `rt try` has the option `--fail-alloc` for that.
 #[test]
 fn an_answer_wants_memory(rt: HostRuntime) -> Result<(), Fail> {
     let cases: [(&[u8], &[u8], u64); 2] = [

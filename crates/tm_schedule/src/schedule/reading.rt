@@ -96,7 +96,8 @@ fn count_word(form: Form, word: &[u8], line: usize, before: usize) -> Result<usi
     requires { before ≤ 16777216 }
     ensures ok { IfOk result (λ count. (steps_fault (Some most_steps) before line (word_steps form word.now) ≡ None)
         × (count ≡ before + length (unwrap_or (word_steps form word.now) [])) × (count ≤ 16777216)) }
-    ensures err { IfErr result (λ fault. steps_fault (Some most_steps) before line (word_steps form word.now) ≡ Some fault) }
+    ensures err { IfErr result
+        (λ fault. steps_fault (Some most_steps) before line (word_steps form word.now) ≡ Some fault) }
 {
     if word.is_empty() {
         return Ok(before);

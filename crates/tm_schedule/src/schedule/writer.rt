@@ -10,7 +10,8 @@ use text_out::{Out, WriteFault};
 use tm_model::Pick;
 
 /// A schedule that is written as its steps come, so that it takes no memory: the longest runs of the steps, 16 words a
-/// line, of which one of more than 16,777,216 steps is split from the front. Nothing of a run is written before its end.
+/// line, of which one of more than 16,777,216 steps is split from the front. Nothing of a run is written before its
+/// end.
 #[derive(Drop)]
 pub struct ScheduleWriter {
     // The run that the last step belongs to; none before the first step.
@@ -25,8 +26,8 @@ impl ScheduleWriter {
     ghost use Rattle.tm_schedule.specs.Schedule.{drawn_text, runs_text, schedule_of, title_line};
     ghost use Rattle.tm_schedule.specs.ScheduleWriting.{left_text};
 
-    /// Writes the first line: that of the third form, where a step may come under an event, and else that of the second.
-    /// At most 16,777,216 steps are read back.
+    /// Writes the first line: that of the third form, where a step may come under an event, and else that of the
+    /// second. At most 16,777,216 steps are read back.
     ///
     /// [`WriteFault::Write`], where the device failed: a beginning of the line was written.
     pub fn begin<O: Out>(has_events: bool, out: &mut O) -> Result<ScheduleWriter, WriteFault>

@@ -6,4 +6,5 @@ use Rattle.debug_command.proofs.places.write_names.Given as goal
 
 -- the names of the labels so far were written
 abbrev pub invariant-labels : goal.invariant-labels
-invariant-labels g l = Wrote (g.O.Out.device l.initial.out) (g.O.Out.device l.out) (flat_map (name_line l.at) (take l.index l.labels))
+invariant-labels g l =
+    Wrote (g.O.Out.device l.initial.out) (g.O.Out.device l.out) (flat_map (name_line l.at) (take l.index l.labels))

@@ -5,7 +5,8 @@ use Rattle.elide_args.proofs.words.asked.Goals as goal
 
 -- a name and what stands beside it
 both : {B N R : Type 0} (n : B → N) (r : B → R) (o : Option B) (name : N) (rows : R) → option_map n o ≡ Some name →
-    option_map (λ (p : N × R). p.1) (option_map {U = N × R} (λ b. (n b, r b)) o) ≡ Some rows → option_map {U = N × R} (λ b. (n b, r b)) o ≡ Some (name, rows)
+    option_map (λ (p : N × R). p.1) (option_map {U = N × R} (λ b. (n b, r b)) o) ≡ Some rows
+    → option_map {U = N × R} (λ b. (n b, r b)) o ≡ Some (name, rows)
 both n r None name rows h k = absurd (cc)
 both n r (Some b) name rows h k = cc
 

@@ -12,7 +12,8 @@ returns-then-options g c =
     let after = g.O.Out.device c.list.new.out in
     of_file c.list.result content c.args.options.now.lists source before after
     (subst (Gives content most_bytes) (sym c.as_slice.ensures.value) c.in_ok-text.ensures)
-    (subst (λ (lists : Bool). MatchResult c.list.result (λ _. Prints (IsAssembly lists source) before after) (RefusesSource source (IsAssembly lists source) before after)) (sym c.if-options.true) c.list.ensures)
+    (subst (λ (lists : Bool). MatchResult c.list.result (λ _. Prints (IsAssembly lists source) before after)
+    (RefusesSource source (IsAssembly lists source) before after)) (sym c.if-options.true) c.list.ensures)
 
 pub returns : goal.returns
 returns g c =
@@ -22,4 +23,5 @@ returns g c =
     let after = g.O.Out.device c.write.new.out in
     of_file c.write.result content c.args.options.now.lists source before after
     (subst (Gives content most_bytes) (sym c.as_slice-else-options.ensures.value) c.in_ok-text.ensures)
-    (subst (λ (lists : Bool). MatchResult c.write.result (λ _. Prints (IsAssembly lists source) before after) (RefusesSource source (IsAssembly lists source) before after)) (sym c.if-options.false) c.write.ensures)
+    (subst (λ (lists : Bool). MatchResult c.write.result (λ _. Prints (IsAssembly lists source) before after)
+    (RefusesSource source (IsAssembly lists source) before after)) (sym c.if-options.false) c.write.ensures)

@@ -12,5 +12,6 @@ returns g c =
       listed.0,
       listed.1,
       passed_on (g.O.Out.device c.args.out).contents (held c.new-page.result) (held c.write_listing.new.out)
-          (g.O.Out.device c.in_ok-out.out).contents listed.0 c.new-page.ensures.kept listed.2.bytes c.in_ok-out.ensures.kept,
+          (g.O.Out.device c.in_ok-out.out).contents listed.0 c.new-page.ensures.kept listed.2.bytes
+          c.in_ok-out.ensures.kept,
     )

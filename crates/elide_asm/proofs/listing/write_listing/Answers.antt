@@ -12,11 +12,13 @@ lines-preserved g c =
     let before = c.lines.invariant.2 in
     let entry = c.in_ok-shown.ensures.line in
     let inside : c.lines.place < length c.args.code.now = c.lines-test.true in (
-      place_inside c.args.code.now c.lines.place c.in_ok-shown.shown c.from-place.result inside c.in_ok-shown.ensures.within c.from-place.ensures,
+      place_inside c.args.code.now c.lines.place c.in_ok-shown.shown c.from-place.result inside
+          c.in_ok-shown.ensures.within c.from-place.ensures,
       omega arith,
       (
         _,
-        listed_more c.args.marks.now c.args.code.now c.args.base c.lines.place c.lines.at c.in_ok-shown.shown c.from-place.result
+        listed_more c.args.marks.now c.args.code.now c.args.base c.lines.place c.lines.at c.in_ok-shown.shown
+            c.from-place.result
             before.0 entry.0 (omega arith) c.lines.invariant.1 c.from-place.ensures before.1 entry.1,
         wrote_then before.2 (wrote_then c.in_ok-write_marks.ensures entry.2),
       ),

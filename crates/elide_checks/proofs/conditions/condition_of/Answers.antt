@@ -26,10 +26,13 @@ pub returns-in_err-add_clause : goal.returns-in_err-add_clause
 returns-in_err-add_clause c =
     let p = err_from_is_err_and c.from_residual.result c.from_residual.ensures.1 in
     rw (p.1, p.2)
-    (as_well _ _ (λ none. c.clauses.invariant.2 (first c.in-Some.first.now c.in-Some.more.now c.in-Some.ensures.some none)) c.in_err-add_clause.ensures)
+    (as_well _ _
+    (λ none. c.clauses.invariant.2 (first c.in-Some.first.now c.in-Some.more.now c.in-Some.ensures.some none))
+    c.in_err-add_clause.ensures)
 
 pub returns-in_err-add_clause-2 : goal.returns-in_err-add_clause-2
 returns-in_err-add_clause-2 c =
     let r = c.from_residual-in_err-add_clause-2 in
     let p = err_from_is_err_and r.result r.ensures.1 in
-    rw (p.1, p.2) (as_well _ _ (λ none. c.clauses.invariant.2 (alone c.in_default.ensures.none none)) c.in_err-add_clause-2.ensures)
+    rw (p.1, p.2)
+    (as_well _ _ (λ none. c.clauses.invariant.2 (alone c.in_default.ensures.none none)) c.in_err-add_clause-2.ensures)

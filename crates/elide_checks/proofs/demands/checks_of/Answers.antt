@@ -20,15 +20,19 @@ returns c =
       demanded = demanded.0;
       forbidden = forbidden.0;
       stops = stops.0;
-      whole = joined _ _ _ _ _ _ _ _ c.new-checks.ensures.items demanded.1 forbidden.1 stops.1 _ c.in_ok-add_halt.ensures;
+      whole =
+          joined _ _ _ _ _ _ _ _ c.new-checks.ensures.items demanded.1 forbidden.1 stops.1 _ c.in_ok-add_halt.ensures;
       of_demanded =
-          subst (λ (l : List (Bor (List ℕ))). AllZip (λ (text : Bor (List ℕ)) (check : Check). IsDemanded file names text.now check) l demanded.0)
+          subst (λ (l : List (Bor (List ℕ))).
+          AllZip (λ (text : Bor (List ℕ)) (check : Check). IsDemanded file names text.now check) l demanded.0)
           c.as_slice.ensures.value demanded.2;
       of_forbidden =
-          subst (λ (l : List (Bor (List ℕ))). AllZip (λ (text : Bor (List ℕ)) (check : Check). IsForbidden file names text.now check) l forbidden.0)
+          subst (λ (l : List (Bor (List ℕ))).
+          AllZip (λ (text : Bor (List ℕ)) (check : Check). IsForbidden file names text.now check) l forbidden.0)
           c.as_slice-2.ensures.value forbidden.2;
       of_stops =
-          subst (λ (l : List (Bor (List ℕ))). AllZip (λ (word : Bor (List ℕ)) (check : Check). IsStopCheck word.now check) l stops.0)
+          subst (λ (l : List (Bor (List ℕ))).
+          AllZip (λ (word : Bor (List ℕ)) (check : Check). IsStopCheck word.now check) l stops.0)
           c.as_slice-3.ensures.value stops.2;
     }
 
@@ -38,7 +42,8 @@ returns-then-is_empty c =
     let forbidden = c.in_ok-add_forbidden.ensures in
     let stops = c.in_ok-add_stops.ensures in
     let halt = halt_checks c.args.options.now.expects_halt in
-    let whole = joined _ _ _ _ _ _ _ _ c.new-checks.ensures.items demanded.1 forbidden.1 stops.1 halt c.in_ok-add_halt.ensures in
+    let whole =
+    joined _ _ _ _ _ _ _ _ c.new-checks.ensures.items demanded.1 forbidden.1 stops.1 halt c.in_ok-add_halt.ensures in
     let added = c.add_halt.new.checks in
     let none_in : added.len ≡ 0 = eqb-true added.len 0 (sym c.if-is_empty.ensures) in
     let empty : demanded.0 ++ (forbidden.0 ++ (stops.0 ++ halt)) ≡ [] =

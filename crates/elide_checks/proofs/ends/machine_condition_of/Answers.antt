@@ -11,6 +11,14 @@ returns-in_err-clauses c =
 pub returns-in-None : goal.returns-in-None
 returns-in-None c =
     let run = rw c.in-None.is at c.in_ok-clauses-2.ensures in (
-    inl
-    (inr (record { clauses = c.in_ok-clauses.clauses.items; says = c.in_ok-clauses.ensures; one = run.0; among = run.1; counting = run.2 }), refl)
+    inl (
+      inr (record {
+        clauses = c.in_ok-clauses.clauses.items;
+        says = c.in_ok-clauses.ensures;
+        one = run.0;
+        among = run.1;
+        counting = run.2;
+      }),
+      refl,
+    )
     )

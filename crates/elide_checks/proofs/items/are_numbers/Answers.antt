@@ -9,6 +9,8 @@ use borrow.Author.Tests.{tests}
 
 pub returns : goal.returns
 returns c =
-    all_from_yields_List (λ (term : List ℕ). is_number (is_among c.args.constants.now.names.items) (trimmed term)) _ _ _ c.all.ensures.ran
-    (YieldsList-from_slice_split _ is_sign c.args.sum.now c.split.ensures.rest c.split.ensures.done c.split.ensures.closure (λ x r q k. search (rules, tests)))
+    all_from_yields_List (λ (term : List ℕ). is_number (is_among c.args.constants.now.names.items) (trimmed term)) _ _ _
+    c.all.ensures.ran
+    (YieldsList-from_slice_split _ is_sign c.args.sum.now c.split.ensures.rest c.split.ensures.done
+    c.split.ensures.closure (λ x r q k. search (rules, tests)))
     (λ x b q k. search (rules, tests))

@@ -8,4 +8,5 @@ pub returns : goal.returns
 returns c =
     c.is_number_word.ensures
     ∙ ap (is_number (is_among c.args.constants.now.names.items))
-    (trim_ascii_is c.args.term.now c.trim_ascii.result.now (behind_space c.args.term.now) refl c.trim_ascii.ensures.value)
+    (trim_ascii_is c.args.term.now c.trim_ascii.result.now (behind_space c.args.term.now) refl
+    c.trim_ascii.ensures.value)

@@ -7,7 +7,8 @@ use Rattle.elide_checks.proofs.items.item_of.Goals as goal
 pub returns-in_ok-quantity-in-Some : goal.returns-in_ok-quantity-in-Some
 returns-in_ok-quantity-in-Some c =
     let scope = c.args.scope.now in
-    named_is scope.file.now (is_among scope.constants.now.names.items) c.args.side c.args.word.now c.in-Some.name.now c.in-Some.whose.now c.in_ok-quantity-in-Some.quantity
+    named_is scope.file.now (is_among scope.constants.now.names.items) c.args.side c.args.word.now c.in-Some.name.now
+    c.in-Some.whose.now c.in_ok-quantity-in-Some.quantity
     c.in-Some.ensures c.in_ok-quantity-in-Some.ensures
 
 pub returns-in_err-quantity-in-Some : goal.returns-in_err-quantity-in-Some

@@ -4,7 +4,12 @@ use Rattle.elide_checks.proofs.items.sum_item.Goals as goal
 
 pub returns-in_ok-value-in-Some : goal.returns-in_ok-value-in-Some
 returns-in_ok-value-in-Some c =
-    inl record { behind = c.in-Some.sum.now; has_none = c.requires; whole = c.in-Some.ensures; sum = c.in_ok-value-in-Some.ensures }
+    inl record {
+      behind = c.in-Some.sum.now;
+      has_none = c.requires;
+      whole = c.in-Some.ensures;
+      sum = c.in_ok-value-in-Some.ensures;
+    }
 
 pub returns-in_err-value-in-Some : goal.returns-in_err-value-in-Some
 returns-in_err-value-in-Some c =

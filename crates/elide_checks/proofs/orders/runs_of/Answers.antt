@@ -20,7 +20,8 @@ returns-in_err-first-in-Some-cut-clause-err c =
     let p = err_from_is_err_and r.result r.ensures.1 in
     let why = c.in_err-first-in-Some-cut.ensures in
     rw p.1 (
-      no_first c.in-Some-cut.first.now c.in-Some-cut.end.now (ap option_copied c.in-Some.is ∙ ap Some c.in-Some-cut.ensures.some.whole) why.0,
+      no_first c.in-Some-cut.first.now c.in-Some-cut.end.now
+          (ap option_copied c.in-Some.is ∙ ap Some c.in-Some-cut.ensures.some.whole) why.0,
       misuse_named (codes "--runs") _ _ p.0 why.1 p.2 refl,
     )
 
@@ -30,7 +31,8 @@ returns-in_err-end-in-Some-cut-clause-err c =
     let p = err_from_is_err_and r.result r.ensures.1 in
     let why = c.in_err-end-in-Some-cut.ensures in
     rw p.1 (
-      no_end c.in-Some-cut.first.now c.in-Some-cut.end.now (ap option_copied c.in-Some.is ∙ ap Some c.in-Some-cut.ensures.some.whole) why.0,
+      no_end c.in-Some-cut.first.now c.in-Some-cut.end.now
+          (ap option_copied c.in-Some.is ∙ ap Some c.in-Some-cut.ensures.some.whole) why.0,
       misuse_named (codes "--runs") _ _ p.0 why.1 p.2 refl,
     )
 

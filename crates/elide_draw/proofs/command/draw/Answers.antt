@@ -20,7 +20,8 @@ returns-in-Ok g c =
     × ((other : List ℕ) → given other ≡ next other)
     × HasRunPlan given left file c.in_ok-settings.settings c.in_ok-plan.plan asked.path).
     subst Runs (c.in-Ok.ensures.path ∙ c.in_ok-path.ensures.given)
-    (of_plan content made.1 left options.machine options.schedule asked.path made.0 c.in_ok-settings.settings c.in_ok-plan.plan
+    (of_plan content made.1 left options.machine options.schedule asked.path made.0 c.in_ok-settings.settings
+    c.in_ok-plan.plan
     (λ other. made.3 other ∙ c.record_path.ensures.kept other)
     (subst (λ (held : Option (List ℕ)). IsRead held made.0) (c.record_path.ensures.kept options.machine.file.now)
     (subst (λ (file : Bor (List ℕ)). IsRead (next file.now) made.0) c.in-Ok.ensures.file made.2))

@@ -14,5 +14,6 @@ returns g c =
     (λ (h : IsRecorded left asked.path (schedule_made c.args.course.now c.in_ok-counted.counted.made.items)).
     has_run left c.args.setup.now c.args.course.now asked.path c.in_ok-counted.counted.made.items
     (c.in_ok-timeline.ensures.0, c.in_ok-timeline.ensures.1)
-    (subst (λ (keeps : Bool). IsTally c.args.setup.now c.args.course.now keeps c.in_ok-counted.counted.made.items) c.is_some.ensures c.in_ok-counted.ensures) h)
+    (subst (λ (keeps : Bool). IsTally c.args.setup.now c.args.course.now keeps c.in_ok-counted.counted.made.items)
+    c.is_some.ensures c.in_ok-counted.ensures) h)
     c.record_drawn-drawn.ensures

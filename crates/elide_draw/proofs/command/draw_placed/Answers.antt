@@ -5,6 +5,7 @@ use Rattle.elide_draw.proofs.command.draw_placed.Goals as goal
 pub returns : goal.returns
 returns g c file settings is =
     on_ok_weaker c.draw_course-drawn.result
-    (of_course (g.P.Paths.content c.args.paths.now) (g.P.Paths.content c.draw_course-drawn.new.paths) file settings c.args.plan c.args.asked.now.path
+    (of_course (g.P.Paths.content c.args.paths.now) (g.P.Paths.content c.draw_course-drawn.new.paths) file settings
+    c.args.plan c.args.asked.now.path
     c.args.setup.now c.in_ok-course.course is c.in_ok-course.ensures.steps c.in_ok-course.ensures.listed)
     c.draw_course-drawn.ensures

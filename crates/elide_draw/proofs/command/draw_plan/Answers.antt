@@ -10,7 +10,9 @@ returns g c =
     let given = g.P.Paths.content c.read_file.new.paths in
     let left = g.P.Paths.content c.draw_text.new.paths in
     on_ok_weaker c.draw_text.result
-    (λ (made : (file : ProgramFile) × IsFile c.as_slice.result.now file × HasRunPlan given left file c.args.settings.now c.args.plan c.args.asked.now.path). (
+    (λ (made :
+    (file : ProgramFile) × IsFile c.as_slice.result.now file
+    × HasRunPlan given left file c.args.settings.now c.args.plan c.args.asked.now.path). (
       made.0,
       given,
       record {

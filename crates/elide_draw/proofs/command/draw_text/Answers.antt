@@ -6,6 +6,8 @@ pub returns : goal.returns
 returns g c =
     let made = c.in_ok-setup.ensures in
     on_ok_weaker c.draw_setup-drawn.result
-    (λ (run : HasRunPlan (g.P.Paths.content c.args.paths.now) (g.P.Paths.content c.draw_setup-drawn.new.paths) made.0 c.args.settings.now c.args.plan c.args.asked.now.path).
+    (λ (run :
+    HasRunPlan (g.P.Paths.content c.args.paths.now) (g.P.Paths.content c.draw_setup-drawn.new.paths) made.0
+    c.args.settings.now c.args.plan c.args.asked.now.path).
     (made.0, made.1, run))
     (c.draw_setup-drawn.ensures made.0 c.args.settings.now made.2)

@@ -22,9 +22,11 @@ returns-in-Ok g c =
     let begun = c.in-Ok.timeline in
     let opened = c.in-Ok.ensures in
     IfOk-weaker c.watched_by.result
-    (λ (done : Timeline). (made : List (Pick × Outcome)) × AreOf course (picks_made made) × (after : ShownMachine) × Leads AreMachineSteps first made after
+    (λ (done : Timeline). (made : List (Pick × Outcome)) × AreOf course (picks_made made) × (after : ShownMachine)
+    × Leads AreMachineSteps first made after
     × (last : Timeline) × AreTold begun made last × (done.next ≡ last.next) × Grows last done)
-    (λ (done : Timeline). (made : List (Pick × Outcome)) × IsWatched setup course made × IsToldOf c.args.window made done)
+    (λ (done : Timeline). (made : List (Pick × Outcome)) × IsWatched setup course made
+    × IsToldOf c.args.window made done)
     (λ done h. (
       h.0,
       record {

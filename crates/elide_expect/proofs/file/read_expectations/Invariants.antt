@@ -7,5 +7,6 @@ use Rattle.elide_expect.proofs.file.read_expectations.Given as goal
 abbrev pub invariant-loop-comment : goal.invariant-loop-comment
 invariant-loop-comment l =
     ahead (map expected_content l.all.items)
-    (expectations_from (texts l.words) (map the_wanted l.all.items) (map comment_content (drop l.comment-index l.comments)))
+    (expectations_from (texts l.words) (map the_wanted l.all.items)
+    (map comment_content (drop l.comment-index l.comments)))
     ≡ expectations_from (texts l.words) [] (map comment_content l.comments)

@@ -10,5 +10,6 @@ returns-in-Line-clause-none c =
     let e : Some (nows c.deref.result.now) ≡ pattern_of (wanted c.args.expectation.now)
     = ap (λ rows. Some (nows rows)) c.deref.ensures.value ∙ ap (λ x. pattern_of (wanted x)) (sym c.in-Line.is) in
     subst (λ (p : Option (List (List ℕ))). IfNone c.line_behind.result
-    ((patterns : List (List (List ℕ))) → in_order (cons_option p patterns) (drop c.args.from c.args.lines.now) ≡ false)) e
+    ((patterns : List (List (List ℕ))) → in_order (cons_option p patterns) (drop c.args.from c.args.lines.now) ≡ false))
+    e
     c.line_behind.ensures.none

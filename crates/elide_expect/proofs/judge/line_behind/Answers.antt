@@ -15,7 +15,8 @@ returns-in-Some-clause-some c = λ patterns.
     let at = c.in-Some.at in
     let lines = c.args.lines.now in
     let test = λ (line : Bor (List ℕ)). meets (nows c.args.pieces.now) line.now in
-    let found : position test (drop from lines) ≡ Some at = ap (position test) (sym (take_rest lines from)) ∙ sym c.in-Some.ensures in
+    let found : position test (drop from lines) ≡ Some at =
+    ap (position test) (sym (take_rest lines from)) ∙ sym c.in-Some.ensures in
     let next : from + (at + 1) ≡ from + at + 1 = omega arith in
     followed_some test patterns (drop from lines) (position_within test (drop from lines) at found)
     ∙ ap (λ n. in_order patterns (drop (n + 1) (drop from lines))) (position_some test (drop from lines) at found)
@@ -26,5 +27,6 @@ returns-in-None-clause-none c = λ patterns.
     let from = c.args.from in
     let lines = c.args.lines.now in
     let test = λ (line : Bor (List ℕ)). meets (nows c.args.pieces.now) line.now in
-    let found : position test (drop from lines) ≡ None = ap (position test) (sym (take_rest lines from)) ∙ sym c.in-None.ensures in
+    let found : position test (drop from lines) ≡ None =
+    ap (position test) (sym (take_rest lines from)) ∙ sym c.in-None.ensures in
     followed_none test patterns (drop from lines) (position_none test (drop from lines) found)

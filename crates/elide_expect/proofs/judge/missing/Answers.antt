@@ -20,6 +20,7 @@ loop-expected-preserved c =
           c.loop-expected.from c.in-Some.next whole c.loop-expected-test.true c.expected-item.is
           c.loop-expected.invariant.same c.in-Some.ensures.some;
       before = leads_more c.args.expectations.now c.loop-expected.expected-index c.expected-item.result c.args.lines.now
-          c.loop-expected.from c.in-Some.next c.loop-expected-test.true c.expected-item.is c.loop-expected.invariant.before
+          c.loop-expected.from c.in-Some.next c.loop-expected-test.true c.expected-item.is
+          c.loop-expected.invariant.before
           c.in-Some.ensures.some;
     }

@@ -1,4 +1,5 @@
-use Rattle.std.proofs.Common.{◌≡◌, ◌+◌, ◌-◌, ◌++◌, ◌∷◌, [], Some, None, sym, ◌∙◌, ap, drop, take, length, get_or, arith, length-drop, nat_eq}
+use Rattle.std.proofs.Common.{◌≡◌, ◌+◌, ◌-◌, ◌++◌, ◌∷◌, [], Some, None, sym, ◌∙◌, ap, drop, take, length, get_or, arith}
+use Rattle.std.proofs.Common.{length-drop, nat_eq}
 use Rattle.std.proofs.lemmas.List.{drop-drop, drop_all, take_rest}
 use Rattle.std.specs.List.{ends_with}
 use Rattle.elide_expect.specs.Patterns.{meets, place_of, some_end}
@@ -14,7 +15,8 @@ loop-piece-preserved c =
     let p = (get_or c.in-Some.middle.now i nothing).now in
     let after = nows (drop (i + 1) c.in-Some.middle.now ++ c.in-Some.last.now ∷ []) in
     let rest = take_rest line from in
-    let size : length (take (length line - from) (drop from line)) ≡ length line - from = ap length rest ∙ length-drop from line in
+    let size : length (take (length line - from) (drop from line)) ≡ length line - from =
+    ap length rest ∙ length-drop from line in
     let found : place_of p (drop from line) ≡ Some at
     = ap (place_of p) (sym rest) ∙ sym c.in-Some-place_of.ensures.place in
     record {

@@ -1,4 +1,5 @@
-use Rattle.std.proofs.Common.{◌≡◌, ◌+◌, ◌-◌, ◌++◌, ◌∷◌, [], Some, None, sym, ◌∙◌, ap, drop, take, length, arith, length-drop}
+use Rattle.std.proofs.Common.{◌≡◌, ◌+◌, ◌-◌, ◌++◌, ◌∷◌, [], Some, None, sym, ◌∙◌, ap, drop, take, length, arith}
+use Rattle.std.proofs.Common.{length-drop}
 use Rattle.std.proofs.lemmas.List.{map-append, take_rest}
 use Rattle.std.specs.Prelude.{codes}
 use Rattle.elide_expect.specs.Patterns.{pieces_of, place_of}
@@ -11,7 +12,8 @@ loop-at-preserved c =
     let from = c.loop-at.from in
     let at = c.in-Some.at in
     let rest = take_rest text from in
-    let size : length (take (length text - from) (drop from text)) ≡ length text - from = ap length rest ∙ length-drop from text in
+    let size : length (take (length text - from) (drop from text)) ≡ length text - from =
+    ap length rest ∙ length-drop from text in
     let long : from + at - from ≡ at = omega arith in
     let pushed : nows c.push.new.self.items ≡ nows c.loop-at.pieces.items ++ take at (drop from text) ∷ []
     = ap nows c.in_ok-push.ensures.items ∙ map-append (λ row. row.now) c.loop-at.pieces.items _

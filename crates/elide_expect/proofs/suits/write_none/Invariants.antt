@@ -6,4 +6,5 @@ use Rattle.elide_expect.specs.Words.{texts}
 use Rattle.elide_expect.proofs.suits.write_none.Given as goal
 
 abbrev pub invariant-loop-word : goal.invariant-loop-word
-invariant-loop-word l = list_all (λ word. not (writes word)) (texts (drop l.word-index l.words)) ≡ list_all (λ word. not (writes word)) (texts l.words)
+invariant-loop-word l = list_all (λ word. not (writes word)) (texts (drop l.word-index l.words))
+    ≡ list_all (λ word. not (writes word)) (texts l.words)

@@ -8,4 +8,5 @@ pub loop-at-preserved : goal.loop-at-preserved
 loop-at-preserved c =
     let rest = take_rest c.args.text.now c.loop-at.at in
     c.loop-at.invariant ∙ place_more c.args.piece.now c.args.text.now c.loop-at.at (omega arith)
-    (ap (λ l. starts_with nat_eq l c.args.piece.now) (sym rest) ∙ sym c.starts_with.ensures.value ∙ c.if-starts_with.false)
+    (ap (λ l. starts_with nat_eq l c.args.piece.now) (sym rest) ∙ sym c.starts_with.ensures.value
+    ∙ c.if-starts_with.false)

@@ -41,23 +41,27 @@ pub returns-then-starts_with-4 : goal.returns-then-starts_with-4
 returns-then-starts_with-4 c =
     let text = c.args.text.now in
     let a : pointwise nat_eq text (codes "no failure") ≡ false = search rules in
-    subst (λ (w : Option Wanted). IfOk c.outcomes_of-then-starts_with-4.result (λ outcomes. option_map wanted outcomes ≡ w))
+    subst
+    (λ (w : Option Wanted). IfOk c.outcomes_of-then-starts_with-4.result (λ outcomes. option_map wanted outcomes ≡ w))
     (ap (outcomes_of AtLeast) (take_rest text 9)
     ∙ is_at_least text a
     (sym c.starts_with.ensures.value ∙ c.if-starts_with.false)
     (sym c.starts_with-else-starts_with.ensures.value ∙ c.if-starts_with-2.false)
     (sym c.starts_with-else-starts_with-2.ensures.value ∙ c.if-starts_with-3.false)
-    (sym c.starts_with-else-starts_with-3.ensures.value ∙ c.if-starts_with-4.true)) c.outcomes_of-then-starts_with-4.ensures
+    (sym c.starts_with-else-starts_with-3.ensures.value ∙ c.if-starts_with-4.true))
+    c.outcomes_of-then-starts_with-4.ensures
 
 pub returns-then-starts_with-5 : goal.returns-then-starts_with-5
 returns-then-starts_with-5 c =
     let text = c.args.text.now in
     let a : pointwise nat_eq text (codes "no failure") ≡ false = search rules in
-    subst (λ (w : Option Wanted). IfOk c.outcomes_of-then-starts_with-5.result (λ outcomes. option_map wanted outcomes ≡ w))
+    subst
+    (λ (w : Option Wanted). IfOk c.outcomes_of-then-starts_with-5.result (λ outcomes. option_map wanted outcomes ≡ w))
     (ap (outcomes_of Never) (take_rest text 6)
     ∙ is_never text a
     (sym c.starts_with.ensures.value ∙ c.if-starts_with.false)
     (sym c.starts_with-else-starts_with.ensures.value ∙ c.if-starts_with-2.false)
     (sym c.starts_with-else-starts_with-2.ensures.value ∙ c.if-starts_with-3.false)
     (sym c.starts_with-else-starts_with-3.ensures.value ∙ c.if-starts_with-4.false)
-    (sym c.starts_with-else-starts_with-4.ensures.value ∙ c.if-starts_with-5.true)) c.outcomes_of-then-starts_with-5.ensures
+    (sym c.starts_with-else-starts_with-4.ensures.value ∙ c.if-starts_with-5.true))
+    c.outcomes_of-then-starts_with-5.ensures

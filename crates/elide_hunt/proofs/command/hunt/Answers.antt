@@ -31,13 +31,18 @@ returns-clause-printed g c =
       setup = made.1;
       asked = record {
         file = made.0;
-        read = record { text = bytes; given = given; read = subst (λ (text : List ℕ). IsFile text made.0) c.as_slice.ensures.value made.3 };
+        read = record {
+          text = bytes;
+          given = given;
+          read = subst (λ (text : List ℕ). IsFile text made.0) c.as_slice.ensures.value made.3;
+        };
         settings = c.in_ok-settings.settings;
         said = c.in_ok-settings.ensures.settings;
         made = made.4;
       };
       trial = made.2;
-      made = subst (λ (text : List ℕ). IsTrialOf text made.0 options made.1 orders made.2) c.as_slice.ensures.value made.5;
+      made =
+          subst (λ (text : List ℕ). IsTrialOf text made.0 options made.1 orders made.2) c.as_slice.ensures.value made.5;
       orders = orders;
       ordered = record {
         runs = c.in_ok-orders.ensures.runs;
@@ -51,13 +56,16 @@ returns-clause-printed g c =
       search = one;
       hunted = made.6;
       told = c.in_ok-answer.ensures.told;
-      recorded = subst (λ (path : Option (Bor (List ℕ))). IfSome one.found (λ found. IsRecorded left path (schedule_text (deciding found.failure)))) c.in_ok-path.ensures.given c.in_ok-write_record.ensures.written;
+      recorded = subst (λ (path : Option (Bor (List ℕ))). IfSome one.found (λ found. IsRecorded left path
+          (schedule_text (deciding found.failure)))) c.in_ok-path.ensures.given c.in_ok-write_record.ensures.written;
     }
 
 pub returns-in_err-settings-clause-refused : goal.returns-in_err-settings-clause-refused
 returns-in_err-settings-clause-refused g c =
     let p = err_from_is_err_and c.from_residual.result c.from_residual.ensures.1 in
-    rw (p.1, p.2) (without_program (λ any. no_setup c.in_err-settings.field-0.0 (HasNoProgram.misread c.in_err-settings.ensures.misread) refl))
+    rw (p.1, p.2)
+    (without_program
+    (λ any. no_setup c.in_err-settings.field-0.0 (HasNoProgram.misread c.in_err-settings.ensures.misread) refl))
 
 pub returns-in_err-orders-clause-refused : goal.returns-in_err-orders-clause-refused
 returns-in_err-orders-clause-refused g c =
@@ -71,7 +79,9 @@ returns-in_err-text-clause-refused g c =
     let p = err_from_is_err_and c.from_residual-in_err-text.result c.from_residual-in_err-text.ensures.1 in
     rw (p.1, p.2)
     (without_program (λ any. no_setup cause
-    (not_read (rw (c.record_path.ensures.kept file) at (rw (c.page_path.ensures.kept file) at c.in_err-text.ensures.given))) refl))
+    (not_read
+    (rw (c.record_path.ensures.kept file) at (rw (c.page_path.ensures.kept file) at c.in_err-text.ensures.given)))
+    refl))
 
 pub returns-in_err-answer-clause-refused : goal.returns-in_err-answer-clause-refused
 returns-in_err-answer-clause-refused g c =
@@ -101,7 +111,11 @@ returns-in_err-paged-clause-refused g c =
         setup = made.1;
         asked = record {
           file = made.0;
-          read = record { text = bytes; given = given; read = subst (λ (text : List ℕ). IsFile text made.0) c.as_slice.ensures.value made.3 };
+          read = record {
+            text = bytes;
+            given = given;
+            read = subst (λ (text : List ℕ). IsFile text made.0) c.as_slice.ensures.value made.3;
+          };
           settings = c.in_ok-settings.settings;
           said = c.in_ok-settings.ensures.settings;
           made = made.4;
@@ -116,7 +130,8 @@ returns-in_err-paged-clause-refused g c =
           jobs = c.in_ok-orders.ensures.jobs;
         };
         trial = made.2;
-        made = subst (λ (text : List ℕ). IsTrialOf text made.0 options made.1 orders made.2) c.as_slice.ensures.value made.5;
+        made = subst (λ (text : List ℕ). IsTrialOf text made.0 options made.1 orders made.2)
+            c.as_slice.ensures.value made.5;
         beside = c.in_ok-search.beside;
         hunted = made.6;
       };

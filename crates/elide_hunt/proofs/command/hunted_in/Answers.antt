@@ -9,7 +9,8 @@ use Rattle.elide_hunt.proofs.command.hunted_in.Goals as goal
 
 pub returns-clause-hunted : goal.returns-clause-hunted
 returns-clause-hunted g c text file options are =
-    with_trial _ c.args.orders.now text file options c.args.setup.now c.shortest.result c.shortest.ensures.hunted refl refl refl
+    with_trial _ c.args.orders.now text file options c.args.setup.now c.shortest.result
+    c.shortest.ensures.hunted refl refl refl
     (subst (AreChecks text file options) (sym c.in_ok-checks.ensures.0) are)
 
 pub returns-in_err-checks-clause-refused : goal.returns-in_err-checks-clause-refused
@@ -18,10 +19,12 @@ returns-in_err-checks-clause-refused g c text file options are =
     let program = c.args.setup.now.program in
     rw (p.1, p.2)
     (not_there c.args.demands.now are
-    (lacks HasCheck c.mem_size.result program.mem_size c.cores.result (length program.entries) c.args.demands.now.checks.items c.mem_size.ensures.size
+    (lacks HasCheck c.mem_size.result program.mem_size c.cores.result (length program.entries)
+    c.args.demands.now.checks.items c.mem_size.ensures.size
     c.cores.ensures.number c.in_err-checks.ensures.0) c.in_err-checks.ensures.1)
 
 pub returns-clause-refused : goal.returns-clause-refused
 returns-clause-refused g c text file options are =
-    no_search_of _ c.args.orders.now text file options c.args.setup.now c.shortest.result c.shortest.ensures.refused refl refl refl
+    no_search_of _ c.args.orders.now text file options c.args.setup.now c.shortest.result
+    c.shortest.ensures.refused refl refl refl
     (subst (AreChecks text file options) (sym c.in_ok-checks.ensures.0) are)

@@ -7,6 +7,9 @@ use Rattle.elide_hunt.proofs.command.put_lines.Goals as goal
 
 pub returns-clause-told : goal.returns-clause-told
 returns-clause-told g c =
-    let held : Gathered g.row.O.Denot → Option (List ℕ) = λ m. told (g.O.Out.device m.out).contents (g.O.Out.device m.before.value).contents m.failures m.row.items in
-    passed_on (g.O.Out.device c.args.out).contents (held c.new-page.result) (held c.tell_lines.new.out) (g.O.Out.device c.in_ok-out.out).contents
-    (search_text c.args.options.now c.args.beside c.args.search.now) c.new-page.ensures.kept c.in_ok-tell_lines.ensures.bytes c.in_ok-out.ensures.kept
+    let held : Gathered g.row.O.Denot → Option (List ℕ) =
+    λ m. told (g.O.Out.device m.out).contents (g.O.Out.device m.before.value).contents m.failures m.row.items in
+    passed_on (g.O.Out.device c.args.out).contents (held c.new-page.result) (held c.tell_lines.new.out)
+    (g.O.Out.device c.in_ok-out.out).contents
+    (search_text c.args.options.now c.args.beside c.args.search.now) c.new-page.ensures.kept
+    c.in_ok-tell_lines.ensures.bytes c.in_ok-out.ensures.kept

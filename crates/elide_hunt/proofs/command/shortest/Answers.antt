@@ -9,6 +9,8 @@ returns-clause-hunted g c =
     shortened_hunt c.args.trial.now c.args.orders.now
     (record { before = c.counts_of-before.result; cycle = c.in_ok-cycle.cycle })
     c.in_ok-found.field-0 c.in-Some.field-0 c.shortened.new.failure c.in-Some.is c.in_ok-found.ensures.searched
-    (subst (λ (picks : List Pick). c.counts_of-before.result ≡ counts_of picks) c.as_slice.ensures.value c.counts_of-before.ensures)
-    c.in_ok-shortened.ensures.fails c.in_ok-shortened.ensures.same c.in_ok-shortened.ensures.simpler c.in_ok-shortened.ensures.kinds
+    (subst (λ (picks : List Pick). c.counts_of-before.result ≡ counts_of picks) c.as_slice.ensures.value
+    c.counts_of-before.ensures)
+    c.in_ok-shortened.ensures.fails c.in_ok-shortened.ensures.same c.in_ok-shortened.ensures.simpler
+    c.in_ok-shortened.ensures.kinds
     c.in_ok-cycle.ensures.found

@@ -6,4 +6,5 @@ use Rattle.elide_hunt.proofs.object.line_of.Goals as goal
 pub returns : goal.returns
 returns c =
     let o = c.args.object.now in
-    IfOk-weaker c.object_line.result _ _ (λ line texts. texts (object_value o) (λ log sent. sent) (no_float_object o)) c.object_line.ensures
+    IfOk-weaker c.object_line.result _ _ (λ line texts. texts (object_value o) (λ log sent. sent) (no_float_object o))
+    c.object_line.ensures

@@ -12,7 +12,8 @@ returns-in-Ok-clause-made g c =
     let share = c.in_ok-share.share in
     let again = c.in-Ok.again in
     let failed = rw c.in-Some.is at c.in_ok-share.ensures.made.failed in
-    search_behind block.trial made block.first c.in-Some.failing block.end share.ended share.cut again _ c.in_ok-share.ensures.made.passed failed.0 (omega (arith, failed.1))
+    search_behind block.trial made block.first c.in-Some.failing block.end share.ended share.cut again _
+    c.in_ok-share.ensures.made.passed failed.0 (omega (arith, failed.1))
     c.in-Ok.ensures.ok refl refl refl
 
 pub returns-in-Err-clause-refused : goal.returns-in-Err-clause-refused

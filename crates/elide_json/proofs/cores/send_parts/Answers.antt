@@ -17,7 +17,8 @@ returns g c =
     (ap (map (λ name. name.now)) c.as_slice.ensures.value ∙ c.names_of.ensures) c.in_ok-send_texts.ensures in
     on_ok_weaker c.end_map.result (λ ended.
     let end = written c.end_map.new.self in
-    let last = sent_member (codes "flags") names no_members (written c.send_regs.new.out) (written c.send_texts.new.out) end
+    let last =
+    sent_member (codes "flags") names no_members (written c.send_regs.new.out) (written c.send_texts.new.out) end
     flags ended in (
       written c.begin_map.new.self,
       c.in_ok-begin_map.ensures,

@@ -10,7 +10,8 @@ pub returns : goal.returns
 returns g c =
     let written = g.S.Serializer.written in
     let state = c.args.state in
-    let name = sent_equal (codes "state") string _ (state_name state) _ _ c.name_of_state.ensures c.in_ok-send_text.ensures in
+    let name =
+    sent_equal (codes "state") string _ (state_name state) _ _ c.name_of_state.ensures c.in_ok-send_text.ensures in
     let depth = sent_equal (codes "depth") number_value _ (state_depth state) _ _ (c.from.ensures ∙ c.depth_of.ensures)
     c.in_ok-send_number.ensures in
     on_ok_weaker c.send_word.result (λ sent others end rest.

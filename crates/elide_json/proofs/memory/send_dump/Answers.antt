@@ -9,7 +9,8 @@ pub returns : goal.returns
 returns g c =
     let written = g.S.Serializer.written in
     let row = c.args.row.now in
-    let address = sent_equal (codes "address") number_value _ row.address _ _ c.from.ensures c.in_ok-send_number.ensures in
+    let address =
+    sent_equal (codes "address") number_value _ row.address _ _ c.from.ensures c.in_ok-send_number.ensures in
     let digits = sent_equal (codes "bytes") string _ (string_bytes row.digits) _ _ c.as_str.ensures.value
     c.in_ok-send_text.ensures in
     on_ok_weaker c.end_map.result (λ ended. (

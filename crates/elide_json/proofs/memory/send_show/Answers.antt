@@ -9,9 +9,12 @@ pub returns : goal.returns
 returns g c =
     let written = g.S.Serializer.written in
     let row = c.args.row.now in
-    let at = sent_equal (codes "at") string _ (string_bytes row.at) _ _ c.as_str.ensures.value c.in_ok-send_text.ensures in
-    let address = sent_equal (codes "address") number_value _ row.address _ _ c.from.ensures c.in_ok-send_number.ensures in
-    let value = sent_equal (codes "value") number_value _ row.value _ _ c.from-2.ensures c.in_ok-send_number-2.ensures in
+    let at =
+    sent_equal (codes "at") string _ (string_bytes row.at) _ _ c.as_str.ensures.value c.in_ok-send_text.ensures in
+    let address =
+    sent_equal (codes "address") number_value _ row.address _ _ c.from.ensures c.in_ok-send_number.ensures in
+    let value =
+    sent_equal (codes "value") number_value _ row.value _ _ c.from-2.ensures c.in_ok-send_number-2.ensures in
     on_ok_weaker c.end_map.result (λ ended. (
       written c.begin_map.new.self,
       c.in_ok-begin_map.ensures,

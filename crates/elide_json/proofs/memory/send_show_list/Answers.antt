@@ -8,13 +8,15 @@ use Rattle.elide_json.proofs.memory.send_show_list.Goals as goal
 
 pub loop-row-preserved : goal.loop-row-preserved
 loop-row-preserved g c =
-    WritesEach-more (λ row. SendsValue (show_row row)) c.args.rows.now c.loop-row.row-index c.row-item.result _ _ _ (search rules)
+    WritesEach-more (λ row. SendsValue (show_row row)) c.args.rows.now c.loop-row.row-index c.row-item.result _ _
+    _ (search rules)
     (search rules) c.loop-row.invariant c.in_ok-send_show.ensures
 
 pub returns : goal.returns
 returns g c =
     on_ok_weaker c.end_seq.result
     (λ ended. sent_list show_row c.args.rows.now _ _
-    (WritesSeq-ends (λ row. SendsValue (show_row row)) _ _ _ _ _ _ _ _ refl (search rules) (search rules) c.in_ok-begin_seq.ensures
+    (WritesSeq-ends (λ row. SendsValue (show_row row)) _ _ _ _ _ _ _ _ refl (search rules) (search rules)
+    c.in_ok-begin_seq.ensures
     c.loop-row.invariant ended))
     c.end_seq.ensures

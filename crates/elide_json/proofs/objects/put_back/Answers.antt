@@ -34,6 +34,7 @@ returns-clause-wrote g c =
     (same (member (codes "running") (running_value (option_copied c.args.running)) (status_member c.args.status))) in
     on_ok_weaker c.put_others.result
     (λ h. wrote_then
-    (subst (λ (l : List ℕ). Wrote (device c.args.out.now) (device c.put.new.out) l) c.closing.ensures c.in_ok-put.ensures.wrote)
+    (subst (λ (l : List ℕ). Wrote (device c.args.out.now) (device c.put.new.out) l) c.closing.ensures
+    c.in_ok-put.ensures.wrote)
     (subst (λ (l : List ℕ). Wrote (device c.put.new.out) (device c.put_others.new.out) (drop 1 l)) line h))
     c.put_others.ensures.wrote

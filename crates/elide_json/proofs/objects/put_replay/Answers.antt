@@ -22,6 +22,7 @@ returns-clause-wrote g c =
     c.shown_of-shown.ensures.dumps c.shown_of-shown.ensures.shows are in
     let text : c.as_bytes.result.now ≡ object_text (replay_value machine parts texts c.args.agrees c.args.status) =
     c.as_bytes.ensures.value ∙ c.in_ok-line.ensures.text
-    ∙ ap (λ (members : Members). object_text (command_value (codes "replay") members)) (same (member (codes "agree") (boolean c.args.agrees) (status_member c.args.status))) in
+    ∙ ap (λ (members : Members). object_text (command_value (codes "replay") members))
+    (same (member (codes "agree") (boolean c.args.agrees) (status_member c.args.status))) in
     on_ok_weaker c.put.result
     (λ h. subst (λ (l : List ℕ). Wrote (device c.args.out.now) (device c.put.new.out) l) text h) c.put.ensures.wrote

@@ -7,4 +7,5 @@ use Rattle.elide_object.proofs.schedule.send_words.Given as goal
 -- the words so far were sent
 abbrev pub invariant-loop-pick : goal.invariant-loop-pick
 invariant-loop-pick g l =
-    WritesEach (λ pick. SendsValue (word_value pick)) (take l.pick-index l.picks) (g.S.Serializer.written l.initial.out) (g.S.Serializer.written l.out)
+    WritesEach (λ pick. SendsValue (word_value pick)) (take l.pick-index l.picks) (g.S.Serializer.written l.initial.out)
+    (g.S.Serializer.written l.out)

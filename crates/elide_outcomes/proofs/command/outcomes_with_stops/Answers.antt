@@ -59,7 +59,8 @@ returns-in_err-text-clause-err g c =
     let r = c.from_residual-in_err-text in
     let p = err_from_is_err_and r.result r.ensures.1 in
     let file = c.args.options.now.machine.file.now in
-    rw p.1 (not_read c.in_err-text.field-0.0 (subst (λ (known : Option (List ℕ)). Tells unread known c.in_err-text.field-0.0)
+    rw p.1
+    (not_read c.in_err-text.field-0.0 (subst (λ (known : Option (List ℕ)). Tells unread known c.in_err-text.field-0.0)
     (c.read-3.ensures.kept file) c.in_err-text.ensures.given) p.2)
 
 pub returns-in_err-found-clause-err : goal.returns-in_err-found-clause-err
@@ -74,7 +75,8 @@ returns-in_err-found-clause-err g c =
     (subst (λ (known : Option (List ℕ)). Gives known most_bytes c.in_ok-text.text.items)
     (c.read-3.ensures.kept options.machine.file.now) c.in_ok-text.ensures.given)
     c.in_ok-settings.ensures.settings c.in_ok-under.ensures.ok c.requires
-    (subst (λ (text : List ℕ). IsNotFound text settings options under stops c.in_err-found.field-0.0) c.as_slice.ensures.value
+    (subst (λ (text : List ℕ). IsNotFound text settings options under stops c.in_err-found.field-0.0)
+    c.as_slice.ensures.value
     c.in_err-found.ensures))
 
 pub returns-in_err-write-clause-err : goal.returns-in_err-write-clause-err
@@ -122,7 +124,8 @@ returns-clause-page g c =
         is_found = made.6;
       };
       refused =
-          subst (λ (text : List ℕ). IsNotShown text options.machine c.in_ok-found.found.search.outcomes.items c.in_ok-page.page why)
+          subst (λ (text : List ℕ). IsNotShown text options.machine c.in_ok-found.found.search.outcomes.items
+          c.in_ok-page.page why)
           c.as_slice-2.ensures.value
           (subst (λ (told : List Told). IsNotShown c.as_slice-2.result.now options.machine told c.in_ok-page.page why)
           c.as_slice-told.ensures.value h);

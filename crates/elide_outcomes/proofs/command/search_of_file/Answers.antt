@@ -40,7 +40,8 @@ pub returns-in_err-items : goal.returns-in_err-items
 returns-in_err-items g c =
     let p = err_from_is_err_and c.from_residual.result c.from_residual.ensures.1 in
     rw (p.1, p.2)
-    (no_items (subst (λ (asks : Bool). AreNoItems c.args.file.now (not asks) (option_copied c.args.asked.now.options.now.show) c.in_err-items.field-0.0) c.asks_more.ensures
+    (no_items (subst (λ (asks : Bool). AreNoItems c.args.file.now (not asks)
+    (option_copied c.args.asked.now.options.now.show) c.in_err-items.field-0.0) c.asks_more.ensures
     c.in_err-items.ensures))
 
 pub returns-in_err-ends : goal.returns-in_err-ends
@@ -51,8 +52,11 @@ returns-in_err-ends g c =
     let text = c.args.text.now in
     let file = c.args.file.now in
     rw (p.1, p.2)
-    (no_checks (subst (λ (l : List (Bor (List ℕ))). AreNoChecks text file l options.forbids.items c.in_err-ends.field-0.0) c.as_slice.ensures.value
-    (subst (λ (l : List (Bor (List ℕ))). AreNoChecks text file c.as_slice.result.now l c.in_err-ends.field-0.0) c.as_slice-2.ensures.value c.in_err-ends.ensures)))
+    (no_checks
+    (subst (λ (l : List (Bor (List ℕ))). AreNoChecks text file l options.forbids.items c.in_err-ends.field-0.0)
+    c.as_slice.ensures.value
+    (subst (λ (l : List (Bor (List ℕ))). AreNoChecks text file c.as_slice.result.now l c.in_err-ends.field-0.0)
+    c.as_slice-2.ensures.value c.in_err-ends.ensures)))
 
 pub returns-in_err-setup : goal.returns-in_err-setup
 returns-in_err-setup g c =
@@ -77,9 +81,12 @@ returns-in_err-search g c =
       checks = checks;
       shown = subst (λ (asks : Bool). AreItems file (not asks) (option_copied options.show) items) c.asks_more.ensures
           c.in_ok-items.ensures;
-      checked = subst (λ (l : List (Bor (List ℕ))). AreEndChecks text file l options.forbids.items checks) c.as_slice.ensures.value
-          (subst (λ (l : List (Bor (List ℕ))). AreEndChecks text file c.as_slice.result.now l checks) c.as_slice-2.ensures.value
+      checked = subst (λ (l : List (Bor (List ℕ))). AreEndChecks text file l options.forbids.items checks)
+          c.as_slice.ensures.value
+          (subst (λ (l : List (Bor (List ℕ))). AreEndChecks text file c.as_slice.result.now l checks)
+          c.as_slice-2.ensures.value
           c.in_ok-ends.ensures);
-      none = subst (λ (l : List Item). IsNotSearchedBy c.in_ok-setup.setup l checks asked.under asked.stops.now c.in_err-search.field-0.0)
+      none = subst (λ (l : List Item). IsNotSearchedBy c.in_ok-setup.setup l checks asked.under asked.stops.now
+          c.in_err-search.field-0.0)
           c.as_slice-4.ensures.value c.in_err-search.ensures;
     }))

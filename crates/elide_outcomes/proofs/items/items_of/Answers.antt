@@ -13,7 +13,8 @@ pub returns-in_err-items : goal.returns-in_err-items
 returns-in_err-items c =
     let p = err_from_is_err_and c.from_residual.result c.from_residual.ensures.1 in
     rw (p.1, p.2)
-    (items_refused c.args.file.now c.args.is_wanted (option_copied c.args.text) c.in-Some.text.now _ (ap option_copied c.in-Some.is) c.in_err-items.ensures)
+    (items_refused c.args.file.now c.args.is_wanted (option_copied c.args.text) c.in-Some.text.now _
+    (ap option_copied c.in-Some.is) c.in_err-items.ensures)
 
 pub returns-then-is_empty : goal.returns-then-is_empty
 returns-then-is_empty c =

@@ -8,7 +8,8 @@ pub returns : goal.returns
 returns g c =
     let written = g.S.Serializer.written in
     let cycle = c.args.cycle.now in
-    let states = sent_equal (codes "states") number_value _ cycle.states _ _ c.from.ensures c.in_ok-send_number.ensures in
+    let states =
+    sent_equal (codes "states") number_value _ cycle.states _ _ c.from.ensures c.in_ok-send_number.ensures in
     let schedule = sent_equal (codes "schedule") schedule_value _ cycle.schedule.items _ _
     c.as_slice.ensures.value c.in_ok-send_schedule.ensures in
     let steps = sent_equal (codes "steps") schedule_value _ cycle.steps.items _ _

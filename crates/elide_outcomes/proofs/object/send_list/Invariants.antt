@@ -7,5 +7,6 @@ use Rattle.elide_outcomes.proofs.object.send_list.Given as goal
 -- the outcomes so far were sent
 abbrev pub invariant-loop-told : goal.invariant-loop-told
 invariant-loop-told g l =
-    WritesEach (λ told. SendsValue (outcome_value told)) (take l.told-index l.outcomes) (g.S.Serializer.written l.initial.out)
+    WritesEach (λ told. SendsValue (outcome_value told)) (take l.told-index l.outcomes)
+    (g.S.Serializer.written l.initial.out)
     (g.S.Serializer.written l.out)

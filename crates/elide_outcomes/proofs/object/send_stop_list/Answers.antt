@@ -8,11 +8,13 @@ use Rattle.elide_outcomes.proofs.object.send_stop_list.Goals as goal
 
 pub loop-told-preserved : goal.loop-told-preserved
 loop-told-preserved g c =
-    WritesEach-more (λ told. SendsValue (stop_value told)) c.args.stops.now c.loop-told.told-index c.told-item.result _ _ _ (search rules) (search rules) c.loop-told.invariant c.in_ok-send_stop.ensures
+    WritesEach-more (λ told. SendsValue (stop_value told)) c.args.stops.now c.loop-told.told-index c.told-item.result _
+    _ _ (search rules) (search rules) c.loop-told.invariant c.in_ok-send_stop.ensures
 
 pub returns : goal.returns
 returns g c =
     on_ok_weaker c.end_seq.result
     (λ ended. sent_list stop_value c.args.stops.now _ _
-    (WritesSeq-ends (λ told. SendsValue (stop_value told)) _ _ _ _ _ _ _ _ refl (search rules) (search rules) c.in_ok-begin_seq.ensures c.loop-told.invariant ended))
+    (WritesSeq-ends (λ told. SendsValue (stop_value told)) _ _ _ _ _ _ _ _ refl (search rules) (search rules)
+    c.in_ok-begin_seq.ensures c.loop-told.invariant ended))
     c.end_seq.ensures

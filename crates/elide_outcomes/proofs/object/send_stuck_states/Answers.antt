@@ -8,7 +8,8 @@ pub returns : goal.returns
 returns g c =
     let written = g.S.Serializer.written in
     let stuck = c.args.stuck.now in
-    let states = sent_equal (codes "states") number_value _ stuck.states _ _ c.from.ensures c.in_ok-send_number.ensures in
+    let states =
+    sent_equal (codes "states") number_value _ stuck.states _ _ c.from.ensures c.in_ok-send_number.ensures in
     let steps = sent_equal (codes "schedule") schedule_value _ stuck.schedule.items _ _
     c.as_slice.ensures.value c.in_ok-send_schedule.ensures in
     on_ok_weaker c.end_map.result (λ ended. (

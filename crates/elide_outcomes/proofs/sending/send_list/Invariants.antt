@@ -7,5 +7,6 @@ use Rattle.elide_outcomes.proofs.sending.send_list.Given as goal
 -- the checks so far were sent
 abbrev pub invariant-loop-told : goal.invariant-loop-told
 invariant-loop-told g l =
-    WritesEach (λ told. SendsValue (violation_value l.options told)) (take l.told-index l.violations) (g.S.Serializer.written l.initial.out)
+    WritesEach (λ told. SendsValue (violation_value l.options told)) (take l.told-index l.violations)
+    (g.S.Serializer.written l.initial.out)
     (g.S.Serializer.written l.out)

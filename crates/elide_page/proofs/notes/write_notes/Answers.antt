@@ -16,8 +16,11 @@ loop-note-preserved g c =
     let none : Note = record { step = 0; text = record { ref_ptr = (0, 0); now = [] } } in
     let note : Note = slice_index_or notes i none in
     let more : take (i + 1) notes ≡ take i notes ++ note ∷ [] = take_more notes i none c.loop-note-test.true in
-    let text : notes_text window false (take i notes) ++ piece_text window c.loop-note.some note ≡ notes_text window false (take (i + 1) notes) =
-    ap (λ (some : Bool). notes_text window false (take i notes) ++ piece_text window some note) c.loop-note.invariant.some
+    let text :
+    notes_text window false (take i notes) ++ piece_text window c.loop-note.some note
+    ≡ notes_text window false (take (i + 1) notes) =
+    ap (λ (some : Bool). notes_text window false (take i notes) ++ piece_text window some note)
+    c.loop-note.invariant.some
     ∙ sym (notes_and window false (take i notes) note) ∙ ap (notes_text window false) (sym more) in
     record {
       wrote = subst (λ (t : List ℕ). Wrote (g.O.Out.device c.args.out.now) (g.O.Out.device c.write_one.new.out) t) text

@@ -24,5 +24,6 @@ returns-clause-written g c =
     × Appends first (g.O.Out.device last).contents bytes)
     (λ last tail. page_written c.args.job.now _ first (g.O.Out.device last).contents
     (held c.new-page.result) (held c.write_head.new.out) (held c.put_front.new.out) (held c.in_ok-told.told) ended
-    c.new-page.ensures.kept head c.in_ok-put_front.ensures.text c.in_ok-told.ensures.written c.in_ok-explained.ensures.text tail)
+    c.new-page.ensures.kept head c.in_ok-put_front.ensures.text c.in_ok-told.ensures.written
+    c.in_ok-explained.ensures.text tail)
     c.finish.ensures.tail

@@ -16,7 +16,8 @@ pub returns-in_err-setup : goal.returns-in_err-setup
 returns-in_err-setup g c =
     let p = err_from_is_err_and c.from_residual-in_err-setup.result c.from_residual-in_err-setup.ensures.1 in
     rw (p.1, p.2)
-    (no_program_of c.args.text.now c.args.machine.now c.args.picks.now c.in_ok-settings.settings c.in_err-setup.field-0.0 c.in_ok-settings.ensures.settings
+    (no_program_of c.args.text.now c.args.machine.now c.args.picks.now c.in_ok-settings.settings
+    c.in_err-setup.field-0.0 c.in_ok-settings.ensures.settings
     c.in_err-setup.ensures.none)
 
 pub returns : goal.returns
@@ -28,6 +29,7 @@ returns g c =
     let asked : Course = Listed c.in_ok-from_slice.field-0 in
     IfErr-weaker c.page_found-written.result (IsNoPage c.in_ok-setup.setup asked) (IsNotPaged text options picks)
     (λ why none.
-    not_paged_of text options picks c.in_ok-settings.settings read.0 c.in_ok-setup.setup asked why c.in_ok-settings.ensures.settings read.1 read.2
+    not_paged_of text options picks c.in_ok-settings.settings read.0 c.in_ok-setup.setup asked why
+    c.in_ok-settings.ensures.settings read.1 read.2
     c.in_ok-from_slice.ensures.items none)
     c.page_found-written.ensures

@@ -26,7 +26,8 @@ returns-clause-text g c =
     (λ (last : g.row.O.Denot). (text : List ℕ) × AreReasonsOf stretch text
     × Wrote (g.O.Out.device c.args.out) (g.O.Out.device last) text)
     (λ last end. reasons_written stretch walked.0 _ (spot ended) (g.O.Out.device c.args.out) (g.O.Out.device last)
-    walked.1 c.in_ok-machine.ensures.made refl refl refl all c.in_ok-check_total.ensures.all c.in_ok-out.ensures.text end)
+    walked.1 c.in_ok-machine.ensures.made refl refl refl all c.in_ok-check_total.ensures.all
+    c.in_ok-out.ensures.text end)
     c.ended.ensures.text
 
 pub returns-in_err-walk-clause-refused : goal.returns-in_err-walk-clause-refused

@@ -20,7 +20,8 @@ returns-clause-none c =
     let list = c.args.list.text.now in
     let addresses = c.in_ok-addresses.addresses.items in
     IfErr-weaker c.for_cores.result
-    (λ (why : ProgramRefusal). IsWant why ⊎ ((length addresses ≢ 1) × (length addresses ≢ c.args.cores) × NamesOption (codes "--entry") why))
+    (λ (why : ProgramRefusal). IsWant why
+    ⊎ ((length addresses ≢ 1) × (length addresses ≢ c.args.cores) × NamesOption (codes "--entry") why))
     (λ (why : ProgramRefusal). HasNoStart file list c.args.cores why)
     (λ why h. no_count file list c.args.cores addresses why c.in_ok-addresses.ensures.entries h)
     c.for_cores.ensures.none

@@ -14,7 +14,8 @@ loop-text-preserved c =
     let text : List ℕ = (slice_index_or c.args.texts.now c.loop-text.text-index empty).now in
     let is = subst (λ r. MatchOption r (IsNoPart c.args.file.now text) (IsDump c.args.file.now text))
     c.in-Some.is c.dump_of.ensures in
-    one_dump c.args.file.now c.args.texts.now _ _ c.loop-text.text-index empty _ c.loop-text-test.true c.loop-text.invariant is
+    one_dump c.args.file.now c.args.texts.now _ _ c.loop-text.text-index empty _ c.loop-text-test.true
+    c.loop-text.invariant is
     c.in_ok-add.ensures.added
 
 pub returns-in_default-clause-none : goal.returns-in_default-clause-none

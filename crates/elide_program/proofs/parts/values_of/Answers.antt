@@ -12,7 +12,8 @@ pub loop-text-preserved : goal.loop-text-preserved
 loop-text-preserved c =
     let is = subst (λ r. IsSum c.args.file.now (slice_index_or c.args.texts.now c.loop-text.text-index empty).now r)
     c.in-Some.is c.sum_of.ensures in
-    one_value c.args.file.now c.args.texts.now _ _ c.loop-text.text-index empty _ c.loop-text-test.true c.loop-text.invariant is
+    one_value c.args.file.now c.args.texts.now _ _ c.loop-text.text-index empty _ c.loop-text-test.true
+    c.loop-text.invariant is
     c.in_ok-add.ensures.added
 
 pub returns-in_default-clause-none : goal.returns-in_default-clause-none

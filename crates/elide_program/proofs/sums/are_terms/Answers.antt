@@ -9,5 +9,6 @@ use borrow.Author.Tests.{tests}
 pub returns : goal.returns
 returns c =
     all_from_yields_List is_term _ _ _ c.all.ensures.ran
-    (YieldsList-from_slice_split _ is_sign c.args.bytes.now c.split.ensures.rest c.split.ensures.done c.split.ensures.closure (λ x b q k. search (rules, tests)))
+    (YieldsList-from_slice_split _ is_sign c.args.bytes.now c.split.ensures.rest c.split.ensures.done
+    c.split.ensures.closure (λ x b q k. search (rules, tests)))
     (λ x b q k. search (rules, tests))

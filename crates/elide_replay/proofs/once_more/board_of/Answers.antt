@@ -35,8 +35,10 @@ returns-in_err-board-clause-none g c =
 pub returns-in_err-walk-clause-none : goal.returns-in_err-walk-clause-none
 returns-in_err-walk-clause-none g c =
     let p = err_from_is_err_and c.from_residual-in_err-walk.result c.from_residual-in_err-walk.ensures.1 in
-    let new : IsNew c.args.setup.now.program c.args.setup.now.limits (max (most_of c.args.course.now) 1) c.in_ok-board.board =
-    subst (λ (n : ℕ). IsNew c.args.setup.now.program c.args.setup.now.limits (max n 1) c.in_ok-board.board) c.most.ensures c.in_ok-board.ensures.made in
+    let new :
+    IsNew c.args.setup.now.program c.args.setup.now.limits (max (most_of c.args.course.now) 1) c.in_ok-board.board =
+    subst (λ (n : ℕ). IsNew c.args.setup.now.program c.args.setup.now.limits (max n 1) c.in_ok-board.board)
+    c.most.ensures c.in_ok-board.ensures.made in
     rw (p.1, p.2)
     (of_walk c.args.setup.now c.args.course.now c.cores-cores.result c.in_ok-board.board c.in_err-walk.field-0.0 new
     c.cores-cores.ensures.program c.in_ok-check_cores.ensures.fit c.in_err-walk.ensures.refused)

@@ -21,4 +21,5 @@ pub loop-index-preserved : goal.loop-index-preserved
 loop-index-preserved c =
     c.in_ok-push.ensures.items
     ∙ picks_more (picks_of c.args.board.now.history) c.loop-index.index c.unwrap.result c.loop-index.picks.items
-    (ap (λ (pairs : List (ℕ × Outcome)). slice_get (picks_of pairs) c.loop-index.index) (sym c.history-history.ensures) ∙ sym c.pick_at.ensures ∙ c.unwrap.ensures) c.loop-index.invariant
+    (ap (λ (pairs : List (ℕ × Outcome)). slice_get (picks_of pairs) c.loop-index.index) (sym c.history-history.ensures)
+    ∙ sym c.pick_at.ensures ∙ c.unwrap.ensures) c.loop-index.invariant

@@ -15,9 +15,12 @@ returns-clause-made g c =
     let left = g.P.Paths.content c.stepped-made.new.paths in
     let course = c.in_ok-setup.course in
     record {
-      asked = subst (λ (content : Option (List ℕ)). IsAsked content c.args.options.now.machine c.in_ok-setup.setup) (c.record_path.ensures.kept c.args.options.now.machine.file.now) c.in_ok-setup.ensures.setup;
+      asked = subst (λ (content : Option (List ℕ)). IsAsked content c.args.options.now.machine c.in_ok-setup.setup)
+          (c.record_path.ensures.kept c.args.options.now.machine.file.now) c.in_ok-setup.ensures.setup;
       made = made.0;
-      steps = asked_before (g.P.Paths.content c.args.paths.now) (g.P.Paths.content c.record_path.new.paths) c.args.options.now.schedule (picks_made made.0) c.record_path.ensures.kept (c.in_ok-setup.ensures.course (picks_made made.0) made.1);
+      steps = asked_before (g.P.Paths.content c.args.paths.now) (g.P.Paths.content c.record_path.new.paths)
+          c.args.options.now.schedule (picks_made made.0) c.record_path.ensures.kept
+          (c.in_ok-setup.ensures.course (picks_made made.0) made.1);
       ran = made.2;
       out = c.in_ok-setup.ensures.out (length c.in_ok-setup.setup.program.entries) made.0 made.6;
       recorded = recorded_asked left c.args.options.now.record c.args.options.now.schedule course made.0
@@ -34,7 +37,8 @@ returns-in_err-setup-clause-refused g c =
     let options = c.args.options.now in
     let p = err_from_is_err_and c.from_residual-in_err-setup.result c.from_residual-in_err-setup.ensures.1 in
     rw (p.1, p.2)
-    (of_opening (g.P.Paths.content c.args.paths.now) (g.P.Paths.content c.record_path.new.paths) (g.P.Paths.are_one c.args.paths.now) options c.in_err-setup.field-0.0
+    (of_opening (g.P.Paths.content c.args.paths.now) (g.P.Paths.content c.record_path.new.paths)
+    (g.P.Paths.are_one c.args.paths.now) options c.in_err-setup.field-0.0
     c.record_path.ensures.kept c.in_err-setup.ensures.none)
 
 pub returns-in_err-machine-clause-refused : goal.returns-in_err-machine-clause-refused
@@ -45,7 +49,10 @@ returns-in_err-machine-clause-refused g c =
     let setup = c.in_ok-setup.setup in
     let p = err_from_is_err_and c.from_residual-in_err-machine.result c.from_residual-in_err-machine.ensures.1 in
     rw (p.1, p.2)
-    (of_run content (g.P.Paths.are_one c.args.paths.now) options setup c.in_ok-setup.course c.in_ok-path.path c.in_err-machine.field-0.0
-    (subst (λ (text : Option (List ℕ)). IsAsked text options.machine setup) (c.record_path.ensures.kept options.machine.file.now) c.in_ok-setup.ensures.setup)
-    (λ picks are. asked_before content after options.schedule picks c.record_path.ensures.kept (c.in_ok-setup.ensures.course picks are))
+    (of_run content (g.P.Paths.are_one c.args.paths.now) options setup c.in_ok-setup.course c.in_ok-path.path
+    c.in_err-machine.field-0.0
+    (subst (λ (text : Option (List ℕ)). IsAsked text options.machine setup)
+    (c.record_path.ensures.kept options.machine.file.now) c.in_ok-setup.ensures.setup)
+    (λ picks are. asked_before content after options.schedule picks c.record_path.ensures.kept
+    (c.in_ok-setup.ensures.course picks are))
     c.in_ok-path.ensures.given c.in_err-machine.ensures.refused)

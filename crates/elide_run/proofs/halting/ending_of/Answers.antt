@@ -11,8 +11,10 @@ loop-core-preserved g c =
     elim c.if-not-has_stopped.branch [
       | then-not-has_stopped+in_ok-write_running w ↦
           rw (w.ending-is, w.out-is)
-          (told_running machine c.loop-core.core c.loop-core.ending (device c.args.out.now) (device c.loop-core.out) _ before (sym w.if-not-has_stopped.ensures) w.in_ok-write_running.ensures)
+          (told_running machine c.loop-core.core c.loop-core.ending (device c.args.out.now) (device c.loop-core.out) _
+          before (sym w.if-not-has_stopped.ensures) w.in_ok-write_running.ensures)
       | else-not-has_stopped w ↦
           rw (w.ending-is, w.out-is)
-          (told_stopped machine c.loop-core.core c.loop-core.ending (device c.args.out.now) (device c.loop-core.out) before (sym w.if-not-has_stopped.ensures))
+          (told_stopped machine c.loop-core.core c.loop-core.ending (device c.args.out.now) (device c.loop-core.out)
+          before (sym w.if-not-has_stopped.ensures))
     ]

@@ -11,11 +11,13 @@ returns-clause-wrote g c =
     let machine = c.args.machine.now in
     let options = c.args.options.now in
     let parts = c.args.setup.now.parts in
-    let back = λ (texts : List (Bor (List ℕ))) (running : Option (List ℕ)). run_back options.traces (run_members machine parts texts running c.args.status) in
+    let back = λ (texts : List (Bor (List ℕ))) (running : Option (List ℕ)). run_back options.traces
+    (run_members machine parts texts running c.args.status) in
     let old = g.O.Out.device c.args.out.now in
     let new = g.O.Out.device c.put_back.new.out in
     let asked = option_copied c.asked_cores.result in
     on_ok_weaker c.put_back.result
-    (λ wrote. subst (λ (running : Option (List ℕ)). Wrote old new (back options.machine.shows.items running)) c.asked_cores.ensures
+    (λ wrote. subst (λ (running : Option (List ℕ)). Wrote old new (back options.machine.shows.items running))
+    c.asked_cores.ensures
     (subst (λ (texts : List (Bor (List ℕ))). Wrote old new (back texts asked)) c.as_slice.ensures.value wrote))
     c.put_back.ensures.wrote

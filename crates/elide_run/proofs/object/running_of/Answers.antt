@@ -12,7 +12,8 @@ loop-core-preserved c =
     let before = c.loop-core.invariant in (
       c.push_running.ensures.cores
           ∙ ap (λ (items : List ℕ). items ++ cond (not c.has_stopped.result) (core ∷ []) []) before.0
-          ∙ ap (λ (is : Bool). filter (λ n. not (is_stopped machine n)) (range_with_len 0 core) ++ cond (not is) (core ∷ []) []) c.has_stopped.ensures
+          ∙ ap (λ (is : Bool). filter (λ n. not (is_stopped machine n)) (range_with_len 0 core)
+          ++ cond (not is) (core ∷ []) []) c.has_stopped.ensures
           ∙ sym (filter_more (λ n. not (is_stopped machine n)) core),
       omega (arith, c.push_running.ensures.len, before.1),
     )

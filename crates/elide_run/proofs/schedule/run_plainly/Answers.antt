@@ -16,13 +16,18 @@ pub returns-clause-made : goal.returns-clause-made
 returns-clause-made g c =
     let made = c.in_ok-machine.ensures.made in
     record {
-      asked = subst (λ (content : Option (List ℕ)). IsAsked content c.args.options.now.machine c.in_ok-setup.setup) (c.record_path.ensures.kept c.args.options.now.machine.file.now) c.in_ok-setup.ensures.setup;
+      asked = subst (λ (content : Option (List ℕ)). IsAsked content c.args.options.now.machine c.in_ok-setup.setup)
+          (c.record_path.ensures.kept c.args.options.now.machine.file.now) c.in_ok-setup.ensures.setup;
       made = made.0;
-      steps = asked_before (g.P.Paths.content c.args.paths.now) (g.P.Paths.content c.record_path.new.paths) c.args.options.now.schedule (picks_made made.0) c.record_path.ensures.kept (c.in_ok-setup.ensures.course (picks_made made.0) made.1);
+      steps = asked_before (g.P.Paths.content c.args.paths.now) (g.P.Paths.content c.record_path.new.paths)
+          c.args.options.now.schedule (picks_made made.0) c.record_path.ensures.kept
+          (c.in_ok-setup.ensures.course (picks_made made.0) made.1);
       ran = made.2;
       out = c.in_ok-setup.ensures.out (length c.in_ok-setup.setup.program.entries) made.0 made.5;
-      recorded = recorded_asked (g.P.Paths.content c.stepped-made.new.paths) c.args.options.now.record c.args.options.now.schedule c.in_ok-setup.course made.0 c.in_ok-setup.ensures.listed made.1
-          (subst (λ (path : Option (Bor (List ℕ))). IsRecorded (g.P.Paths.content c.stepped-made.new.paths) path (schedule_made c.in_ok-setup.course (picks_told made.0))) c.in_ok-path.ensures.given made.4);
+      recorded = recorded_asked (g.P.Paths.content c.stepped-made.new.paths) c.args.options.now.record
+          c.args.options.now.schedule c.in_ok-setup.course made.0 c.in_ok-setup.ensures.listed made.1
+          (subst (λ (path : Option (Bor (List ℕ))). IsRecorded (g.P.Paths.content c.stepped-made.new.paths) path
+          (schedule_made c.in_ok-setup.course (picks_told made.0))) c.in_ok-path.ensures.given made.4);
       lines = trace_text c.args.options.now.traces made.0;
       traced = λ _ _. refl;
       wrote = made.3.bytes;
@@ -32,7 +37,8 @@ pub returns-in_err-setup-clause-refused : goal.returns-in_err-setup-clause-refus
 returns-in_err-setup-clause-refused g c =
     let p = err_from_is_err_and c.from_residual-in_err-setup.result c.from_residual-in_err-setup.ensures.1 in
     rw (p.1, p.2)
-    (unscheduled (scheduled_before (g.P.Paths.content c.args.paths.now) (g.P.Paths.content c.record_path.new.paths) c.args.options.now.machine c.args.options.now.schedule c.in_err-setup.field-0.0
+    (unscheduled (scheduled_before (g.P.Paths.content c.args.paths.now) (g.P.Paths.content c.record_path.new.paths)
+    c.args.options.now.machine c.args.options.now.schedule c.in_err-setup.field-0.0
     c.record_path.ensures.kept c.in_err-setup.ensures.none))
 
 pub returns-in_err-machine-clause-refused : goal.returns-in_err-machine-clause-refused
@@ -43,7 +49,10 @@ returns-in_err-machine-clause-refused g c =
     let setup = c.in_ok-setup.setup in
     let p = err_from_is_err_and c.from_residual-in_err-machine.result c.from_residual-in_err-machine.ensures.1 in
     rw (p.1, p.2)
-    (of_run content (g.P.Paths.are_one c.args.paths.now) options setup c.in_ok-setup.course c.in_ok-path.path c.in_err-machine.field-0.0
-    (subst (λ (text : Option (List ℕ)). IsAsked text options.machine setup) (c.record_path.ensures.kept options.machine.file.now) c.in_ok-setup.ensures.setup)
-    (λ picks are. asked_before content after options.schedule picks c.record_path.ensures.kept (c.in_ok-setup.ensures.course picks are))
+    (of_run content (g.P.Paths.are_one c.args.paths.now) options setup c.in_ok-setup.course c.in_ok-path.path
+    c.in_err-machine.field-0.0
+    (subst (λ (text : Option (List ℕ)). IsAsked text options.machine setup)
+    (c.record_path.ensures.kept options.machine.file.now) c.in_ok-setup.ensures.setup)
+    (λ picks are. asked_before content after options.schedule picks c.record_path.ensures.kept
+    (c.in_ok-setup.ensures.course picks are))
     c.in_ok-path.ensures.given c.in_err-machine.ensures.refused)

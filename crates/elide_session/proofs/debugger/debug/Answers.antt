@@ -19,7 +19,8 @@ returns-in-Ok-clause-served g c = record {
 
 pub returns-in-Err-clause-refused : goal.returns-in-Err-clause-refused
 returns-in-Err-clause-refused g c =
-    ended (g.P.Paths.content c.args.paths.now) c.args.options.now _ _ _ _ _ _ c.session_fault.ensures.kind c.in-Err.ensures.read c.in-Err.ensures.write
+    ended (g.P.Paths.content c.args.paths.now) c.args.options.now _ _ _ _ _ _ c.session_fault.ensures.kind
+    c.in-Err.ensures.read c.in-Err.ensures.write
 
 pub returns-in_err-start-clause-refused : goal.returns-in_err-start-clause-refused
 returns-in_err-start-clause-refused g c =

@@ -15,7 +15,9 @@ returns-in-Ok g c =
       plan = opened.plan.items;
       planned = c.in_ok-opened.ensures.plan;
       answers =
-          subst (λ (plan : Option (List Pick)). ServesInput (g.I.In.remaining c.args.input.now) (g.I.In.remaining c.serve.new.input) (start opened.board plan) (g.O.Out.device c.args.out.now) (g.O.Out.device c.serve.new.out) c.in-Ok._board)
+          subst (λ (plan : Option (List Pick)). ServesInput (g.I.In.remaining c.args.input.now)
+          (g.I.In.remaining c.serve.new.input) (start opened.board plan) (g.O.Out.device c.args.out.now)
+          (g.O.Out.device c.serve.new.out) c.in-Ok._board)
           (c.asked_for-plan.ensures ∙ ap (λ b. if b then Some opened.plan.items else None) c.is_scheduled.ensures)
           c.in-Ok.ensures.ok;
     }

@@ -15,7 +15,8 @@ returns-clause-under c =
     let setup = c.args.setup.now in
     IfOk-weaker c.walk.result (λ kept. Walked drawn c.cores.result c.in_ok-machine.machine c.walk.new.maker kept.items)
     (λ plan. AreUnder drawn.events plan.items)
-    (λ kept h. plan_under drawn setup c.cores.result c.in_ok-machine.machine c.walk.new.maker kept.items c.in_ok-machine.ensures.made h)
+    (λ kept h. plan_under drawn setup c.cores.result c.in_ok-machine.machine c.walk.new.maker kept.items
+    c.in_ok-machine.ensures.made h)
     c.walk.ensures.walked
 
 pub returns-clause-run : goal.returns-clause-run
@@ -24,13 +25,16 @@ returns-clause-run c =
     let setup = c.args.setup.now in
     IfOk-weaker c.walk.result (λ kept. Walked drawn c.cores.result c.in_ok-machine.machine c.walk.new.maker kept.items)
     (λ plan. AreDrawn setup.program setup.limits (IsOut (course.Drawn drawn)) plan.items)
-    (λ kept h. plan_run drawn setup c.cores.result c.in_ok-machine.machine c.walk.new.maker kept.items c.in_ok-machine.ensures.made c.cores.ensures.number h)
+    (λ kept h. plan_run drawn setup c.cores.result c.in_ok-machine.machine c.walk.new.maker kept.items
+    c.in_ok-machine.ensures.made c.cores.ensures.number h)
     c.walk.ensures.walked
 
 pub returns-clause-none : goal.returns-clause-none
 returns-clause-none c =
     let drawn = c.args.drawn in
     let setup = c.args.setup.now in
-    IfErr-weaker c.walk.result (IsNoWalk AreMachineSteps IsNoCore (course.Drawn drawn) c.cores.result c.in_ok-machine.machine) (IsUndrawn setup)
-    (λ why h. of_walk drawn setup c.cores.result c.in_ok-machine.machine why c.in_ok-machine.ensures.made c.cores.ensures.number h)
+    IfErr-weaker c.walk.result
+    (IsNoWalk AreMachineSteps IsNoCore (course.Drawn drawn) c.cores.result c.in_ok-machine.machine) (IsUndrawn setup)
+    (λ why h. of_walk drawn setup c.cores.result c.in_ok-machine.machine why c.in_ok-machine.ensures.made
+    c.cores.ensures.number h)
     c.walk.ensures.refused

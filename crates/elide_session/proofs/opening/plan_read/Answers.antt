@@ -11,7 +11,8 @@ use Rattle.elide_session.proofs.opening.plan_read.Goals as goal
 pub returns-clause-steps : goal.returns-clause-steps
 returns-clause-steps c content picks are =
     c.in_ok-plan.ensures.steps content picks
-    (limited_steps content c.in_ok-plan.plan picks (subst (λ (p : Plan). ArePlanned content p picks) c.limited.ensures are))
+    (limited_steps content c.in_ok-plan.plan picks
+    (subst (λ (p : Plan). ArePlanned content p picks) c.limited.ensures are))
 
 pub returns-clause-listed : goal.returns-clause-listed
 returns-clause-listed c = ap plan_form c.limited.ensures ∙ limited_form c.in_ok-plan.plan ∙ c.in_ok-plan.ensures.listed
@@ -23,5 +24,6 @@ returns-clause-path c =
 
 pub returns-clause-out : goal.returns-clause-out
 returns-clause-out c unlisted cores steps out =
-    limited_out c.args.schedule.now c.in_ok-plan.plan cores steps c.in_ok-plan.ensures.draw c.in_ok-plan.ensures.listed unlisted
+    limited_out c.args.schedule.now c.in_ok-plan.plan cores steps c.in_ok-plan.ensures.draw
+    c.in_ok-plan.ensures.listed unlisted
     (subst (λ (p : Plan). IsPlannedOut p cores steps) c.limited.ensures out)

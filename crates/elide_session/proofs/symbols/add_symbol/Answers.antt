@@ -8,5 +8,6 @@ use Rattle.elide_session.proofs.symbols.add_symbol.Goals as goal
 pub returns-in_ok-push : goal.returns-in_ok-push
 returns-in_ok-push c name so_far =
     ap (λ (row : List Symbol). symbol_in row name) c.in_ok-push.ensures.items
-    ∙ symbol_taken _ c.in-Some.name.now c.in-Some.value.now name c.args.row.now.items c.in_ok-symbol.symbol c.in_ok-symbol.ensures.0 c.in_ok-symbol.ensures.1 so_far
+    ∙ symbol_taken _ c.in-Some.name.now c.in-Some.value.now name c.args.row.now.items c.in_ok-symbol.symbol
+    c.in_ok-symbol.ensures.0 c.in_ok-symbol.ensures.1 so_far
     ∙ ap (known_as name) (sym (take_next c.args.symbols.now.entries c.args.index _ (sym c.in-Some.ensures.entry)))

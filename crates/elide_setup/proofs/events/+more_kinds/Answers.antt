@@ -11,5 +11,6 @@ returns-in_err-kinds t c =
 pub returns-in-Some : goal.returns-in-Some
 returns-in-Some t c =
     c.more_kinds.ensures
-    ∙ kinds_first c.args.kinds c.args.text.now c.cut.result.0.now c.in-Some.names.now (Some c.in_ok-kinds.kinds) c.cut.ensures.front
+    ∙ kinds_first c.args.kinds c.args.text.now c.cut.result.0.now c.in-Some.names.now (Some c.in_ok-kinds.kinds)
+    c.cut.ensures.front
     (ap option_copied (sym c.in-Some.is) ∙ c.cut.ensures.behind) c.in_ok-kinds.ensures

@@ -9,13 +9,16 @@ use Rattle.elide_setup.proofs.machine.new_board.Goals as goal
 
 pub returns-in-Err-clause-none : goal.returns-in-Err-clause-none
 returns-in-Err-clause-none c =
-    not_made c.in-Err.fault refl (λ e. c.in-Err.ensures.limit.0 (ap Err e)) (λ e. (c.in-Err.ensures.limits.0 (ap Err e)).1)
+    not_made c.in-Err.fault refl (λ e. c.in-Err.ensures.limit.0 (ap Err e))
+    (λ e. (c.in-Err.ensures.limits.0 (ap Err e)).1)
 
 pub returns-in_err-shown_memory-in-Ok-clause-none : goal.returns-in_err-shown_memory-in-Ok-clause-none
 returns-in_err-shown_memory-in-Ok-clause-none c =
     let p = err_from_is_err_and c.from_residual.result c.from_residual.ensures.1 in
     let h = c.in_err-shown_memory-in-Ok.ensures in
     let board : Board = c.in-Ok.board in
-    let same : c.view.result.now ≡ board.machine.memory = c.view.ensures ∙ ap (λ (machine : Machine). machine.memory) c.machine.ensures in
+    let same : c.view.result.now ≡ board.machine.memory =
+    c.view.ensures ∙ ap (λ (machine : Machine). machine.memory) c.machine.ensures in
     rw (p.1, p.2)
-    (not_held board c.in-Ok.ensures.ok (subst (λ (memory : List ℕ). are_held (length memory) c.args.setup.now.parts ≡ false) same h.1) h.0)
+    (not_held board c.in-Ok.ensures.ok
+    (subst (λ (memory : List ℕ). are_held (length memory) c.args.setup.now.parts ≡ false) same h.1) h.0)

@@ -23,4 +23,7 @@ returns-in_err-setup-clause-none g c =
     let h = c.in_err-setup.ensures.none in
     let p = err_from_is_err_and c.from_residual-in_err-setup.result c.from_residual-in_err-setup.ensures.1 in
     rw (p.1, p.2)
-    (unloaded h.0 (not_loaded_with c.args.file.now c.args.settings.now c.in_ok-starts.starts.items c.as_slice.result.now h.0 c.as_slice.ensures.value c.in_ok-starts.ensures.cores c.in_ok-starts.ensures.many c.in_ok-starts.ensures.starts h.2) h.1)
+    (unloaded h.0
+    (not_loaded_with c.args.file.now c.args.settings.now c.in_ok-starts.starts.items c.as_slice.result.now h.0
+    c.as_slice.ensures.value c.in_ok-starts.ensures.cores c.in_ok-starts.ensures.many c.in_ok-starts.ensures.starts h.2)
+    h.1)

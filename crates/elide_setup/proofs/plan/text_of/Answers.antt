@@ -8,7 +8,8 @@ pub returns-in-Err : goal.returns-in-Err
 returns-in-Err g c =
     let other : c.in-Err.fault ≢ read.NoMemory = search rules in
     record {
-      none = schedule_unread c.in-Err.fault c.in-Err.ensures.content (unread_as c.in-Err.fault c.from.result other c.from.ensures);
+      none = schedule_unread c.in-Err.fault c.in-Err.ensures.content
+          (unread_as c.in-Err.fault c.from.result other c.from.ensures);
       given = tt;
       whole = tt;
     }

@@ -13,7 +13,9 @@ returns-in-Ok-clause-walked g c =
     let lent = made.0 in (
       made.2,
       made.3,
-      subst (λ (last : g.row.S.Denot). Leads g.S.StepMaker.takes c.args.maker.now made.2 last) (grind (arith, lent)) made.4,
-      held_same (g.P.Paths.content c.write-written.new.self c.args.path.now) whole.0 (drawn_text (may_come c.args.drawn.events) (picks_told made.2)) made.5 whole.2,
+      subst (λ (last : g.row.S.Denot). Leads g.S.StepMaker.takes c.args.maker.now made.2 last)
+          (grind (arith, lent)) made.4,
+      held_same (g.P.Paths.content c.write-written.new.self c.args.path.now) whole.0
+          (drawn_text (may_come c.args.drawn.events) (picks_told made.2)) made.5 whole.2,
       made.6,
     )

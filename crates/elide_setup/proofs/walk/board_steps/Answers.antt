@@ -6,4 +6,5 @@ returns-then-core-cores-clause-steps c = no_steps c.args.board.now c.args.core c
 
 pub returns-clause-steps : goal.returns-clause-steps
 returns-clause-steps c =
-    board_run c.args.board.now c.steps-made.new.self c.args.core c.steps-made.result c.is_run.ensures c.is_run-2.ensures c.steps-made.ensures.made
+    board_run c.args.board.now c.steps-made.new.self c.args.core c.steps-made.result c.is_run.ensures c.is_run-2.ensures
+    c.steps-made.ensures.made

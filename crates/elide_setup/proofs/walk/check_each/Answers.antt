@@ -8,5 +8,7 @@ pub loop-pick-preserved : goal.loop-pick-preserved
 loop-pick-preserved c k none below =
     let steps = c.args.steps.now in
     let i = c.loop-pick.pick-index in
-    below_more (λ (j : ℕ). (slice_index_or steps j none).core < c.args.cores) i (λ j before. c.loop-pick.invariant j none before)
-    (subst (λ (pick : Pick). pick.core < c.args.cores) (get_or_default steps i _ none c.loop-pick-test.true) c.if-pick-cores.false) k below
+    below_more (λ (j : ℕ). (slice_index_or steps j none).core < c.args.cores) i
+    (λ j before. c.loop-pick.invariant j none before)
+    (subst (λ (pick : Pick). pick.core < c.args.cores) (get_or_default steps i _ none c.loop-pick-test.true)
+    c.if-pick-cores.false) k below

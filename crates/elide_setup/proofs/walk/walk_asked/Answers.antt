@@ -24,8 +24,10 @@ returns-then-keeps-clause-walked g c =
 
 pub returns-clause-refused : goal.returns-clause-refused
 returns-clause-refused g c =
-    never_fails (IsStepRefused g.S.StepMaker.takes g.S.StepMaker.refuses (IsNextDrawn c.args.drawn c.args.cores) c.args.maker.now)
-    (λ (why : Refusal). why ≡ refusal.Fault (fault.Run run.NoMemory)) c.walk_drawn-2.result c.walk_drawn-2.ensures.refused
+    never_fails
+    (IsStepRefused g.S.StepMaker.takes g.S.StepMaker.refuses (IsNextDrawn c.args.drawn c.args.cores) c.args.maker.now)
+    (λ (why : Refusal). why ≡ refusal.Fault (fault.Run run.NoMemory)) c.walk_drawn-2.result
+    c.walk_drawn-2.ensures.refused
 
 pub returns-clause-walked : goal.returns-clause-walked
 returns-clause-walked g c =

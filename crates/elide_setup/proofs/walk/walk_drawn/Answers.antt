@@ -17,14 +17,20 @@ loop-number-preserved g c =
     let outcome : Outcome = c.in_ok-outcome.outcome in
     let others : List (Pick × Outcome) = (pick, outcome) ∷ [] in
     record {
-      kinds = subst (λ (kinds : Kinds). AreDrawn c.args.drawn.events kinds) (sym c.next-pick.ensures.same) c.loop-number.invariant.kinds;
+      kinds = subst (λ (kinds : Kinds). AreDrawn c.args.drawn.events kinds) (sym c.next-pick.ensures.same)
+          c.loop-number.invariant.kinds;
       made = (
         made.0 ++ others,
-        under_more c.args.drawn.events c.loop-number.picker.kinds made.0 pick outcome c.loop-number.invariant.kinds c.next-pick.ensures.event c.next-pick.ensures.never made.1,
-        leads_more g.S.StepMaker.takes made.0 others c.args.maker.now c.loop-number.maker c.make_step.new.self made.2 c.in_ok-outcome.ensures.made,
-        leads_more g.K.Keeper.keeps made.0 others c.args.keeper.now c.loop-number.keeper c.keep.new.self made.3 c.in_ok-keep.ensures.kept,
-        more_under_way (not (is_some c.args.drawn.seed)) c.args.cores c.loop-number.number c.loop-number.going c.settle.new.going c.loop-number.picker.turn c.next-pick.new.self.turn made.0 pick outcome
-            made.4 c.next-pick.ensures.core c.next-pick.ensures.turn c.next-pick.ensures.goes_on (c.settle.ensures c.args.cores made.0 made.4.left),
+        under_more c.args.drawn.events c.loop-number.picker.kinds made.0 pick outcome c.loop-number.invariant.kinds
+            c.next-pick.ensures.event c.next-pick.ensures.never made.1,
+        leads_more g.S.StepMaker.takes made.0 others c.args.maker.now c.loop-number.maker c.make_step.new.self made.2
+            c.in_ok-outcome.ensures.made,
+        leads_more g.K.Keeper.keeps made.0 others c.args.keeper.now c.loop-number.keeper c.keep.new.self made.3
+            c.in_ok-keep.ensures.kept,
+        more_under_way (not (is_some c.args.drawn.seed)) c.args.cores c.loop-number.number c.loop-number.going
+            c.settle.new.going c.loop-number.picker.turn c.next-pick.new.self.turn made.0 pick outcome
+            made.4 c.next-pick.ensures.core c.next-pick.ensures.turn c.next-pick.ensures.goes_on
+            (c.settle.ensures c.args.cores made.0 made.4.left),
       );
     }
 
@@ -36,7 +42,8 @@ loop-number-init g c = record {
     search rules,
     ([], refl, refl),
     ([], refl, refl),
-    begun (not (is_some c.args.drawn.seed)) c.args.cores c.all-going.result c.picker-picker.result.turn c.all-going.ensures.below c.all-going.ensures.each
+    begun (not (is_some c.args.drawn.seed)) c.args.cores c.all-going.result c.picker-picker.result.turn
+        c.all-going.ensures.below c.all-going.ensures.each
         (λ e. c.picker-picker.ensures.turn (no_seed c.args.drawn.seed e)),
   );
 }
@@ -51,7 +58,8 @@ returns-then-is_empty-clause-walked g c =
       made.1,
       made.2,
       made.3,
-      at_end (not (is_some c.args.drawn.seed)) c.args.cores c.args.drawn.most c.loop-number.number c.loop-number.going c.loop-number.picker.turn made.0 made.4 few none,
+      at_end (not (is_some c.args.drawn.seed)) c.args.cores c.args.drawn.most c.loop-number.number c.loop-number.going
+          c.loop-number.picker.turn made.0 made.4 few none,
     )
 
 -- there are as many steps as there may be
@@ -63,7 +71,8 @@ returns-clause-walked g c =
       made.1,
       made.2,
       made.3,
-      at_limit (not (is_some c.args.drawn.seed)) c.args.cores c.args.drawn.most c.loop-number.number c.loop-number.going c.loop-number.picker.turn made.0 made.4 all,
+      at_limit (not (is_some c.args.drawn.seed)) c.args.cores c.args.drawn.most c.loop-number.number c.loop-number.going
+          c.loop-number.picker.turn made.0 made.4 all,
     )
 
 -- a step that is due is refused
@@ -84,7 +93,8 @@ returns-in_err-outcome-clause-refused g c =
         few = omega (arith, count);
         core = among.0;
         going = among.1;
-        under = under_one c.args.drawn.events c.loop-number.picker.kinds pick c.loop-number.invariant.kinds c.next-pick.ensures.event c.next-pick.ensures.never;
+        under = under_one c.args.drawn.events c.loop-number.picker.kinds pick c.loop-number.invariant.kinds
+            c.next-pick.ensures.event c.next-pick.ensures.never;
       };
       refused = c.in_err-outcome.ensures.refused;
     }))

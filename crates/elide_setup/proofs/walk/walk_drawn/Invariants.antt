@@ -13,7 +13,8 @@ use Rattle.elide_setup.proofs.walk.walk_drawn.Given as goal
 abbrev pub invariant-loop-number : goal.invariant-loop-number
 invariant-loop-number g l = record {
   kinds : AreDrawn l.fn.drawn.events l.picker.kinds;
-  made : (steps : List (Pick × Outcome)) × AreUnder l.fn.drawn.events (picks_made steps) × Leads g.S.StepMaker.takes l.initial.maker steps l.maker
+  made : (steps : List (Pick × Outcome)) × AreUnder l.fn.drawn.events (picks_made steps)
+      × Leads g.S.StepMaker.takes l.initial.maker steps l.maker
       × Leads g.K.Keeper.keeps l.initial.keeper steps l.keeper
       × IsUnderWay (not (is_some l.fn.drawn.seed)) l.fn.cores l.number l.going l.picker.turn steps;
 }

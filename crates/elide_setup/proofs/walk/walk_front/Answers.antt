@@ -28,7 +28,8 @@ returns-in_err-make_step-clause-refused g c =
     rw (p.1, p.2)
     (refused_at_once g.S.StepMaker.takes g.S.StepMaker.refuses (IsNextOf c.args.steps.now) c.args.maker.now
     (get_or c.args.steps.now 0 none) c.in_err-make_step.field-0.0
-    (next_first c.args.steps.now (get_or c.args.steps.now 0 none) none c.requires.some refl) c.in_err-make_step.ensures.refused)
+    (next_first c.args.steps.now (get_or c.args.steps.now 0 none) none c.requires.some refl)
+    c.in_err-make_step.ensures.refused)
 
 pub returns-in_err-walk_run-clause-refused : goal.returns-in_err-walk_run-clause-refused
 returns-in_err-walk_run-clause-refused g c =
@@ -36,6 +37,7 @@ returns-in_err-walk_run-clause-refused g c =
     let alike = replicate count (lone_pick (get_or c.args.steps.now 0 none).core) in
     let p = err_from_is_err_and c.from_residual-in_err-walk_run.result c.from_residual-in_err-walk_run.ensures.1 in
     rw (p.1, p.2)
-    (refused_as g.S.StepMaker.takes g.S.StepMaker.refuses (IsNextOf c.args.steps.now) (IsNextOf alike) c.args.maker.now c.in_err-walk_run.field-0.0
+    (refused_as g.S.StepMaker.takes g.S.StepMaker.refuses (IsNextOf c.args.steps.now) (IsNextOf alike) c.args.maker.now
+    c.in_err-walk_run.field-0.0
     (λ made pick h. next_in_front c.args.steps.now alike count made pick (sym c.run_length-count.ensures.alike) h)
     c.in_err-walk_run.ensures.refused)

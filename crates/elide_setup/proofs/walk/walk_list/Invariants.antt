@@ -9,7 +9,8 @@ use Rattle.elide_setup.proofs.walk.walk_list.Given as goal
 abbrev pub invariant-loop-index : goal.invariant-loop-index
 invariant-loop-index g l = record {
   most : l.index ≤ length l.steps;
-  made : (made : List (Pick × Outcome)) × (picks_made made ≡ take l.index l.steps) × Leads g.S.StepMaker.takes l.initial.maker made l.maker;
+  made : (made : List (Pick × Outcome)) × (picks_made made ≡ take l.index l.steps)
+      × Leads g.S.StepMaker.takes l.initial.maker made l.maker;
 }
 
 abbrev pub decreases-loop-index : goal.decreases-loop-index

@@ -18,8 +18,10 @@ loop-index-preserved g c =
       most = grind (arith, common_steps, fits);
       made = (
         made.0 ++ others.0,
-        picks_behind made.0 others.0 c.args.steps.now i c.in_ok-count.count made.1 (others.1 ∙ ap (λ (l : List Pick). take c.in_ok-count.count l) rest),
-        leads_on g.S.StepMaker.takes made.0 others.0 c.args.maker.now c.loop-index.maker c.walk_front.new.maker made.2 others.2,
+        picks_behind made.0 others.0 c.args.steps.now i c.in_ok-count.count made.1
+            (others.1 ∙ ap (λ (l : List Pick). take c.in_ok-count.count l) rest),
+        leads_on g.S.StepMaker.takes made.0 others.0 c.args.maker.now c.loop-index.maker c.walk_front.new.maker
+            made.2 others.2,
       );
     }
 
@@ -31,7 +33,8 @@ returns-in_err-count-clause-refused g c =
     let rest = rest_all listed i (omega arith) in
     let p = err_from_is_err_and c.from_residual.result c.from_residual.ensures.1 in
     rw (p.1, p.2)
-    (refused_behind g.S.StepMaker.takes g.S.StepMaker.refuses (IsNextOf listed) (IsNextOf (take (length listed - i) (drop i listed)))
+    (refused_behind g.S.StepMaker.takes g.S.StepMaker.refuses (IsNextOf listed)
+    (IsNextOf (take (length listed - i) (drop i listed)))
     made.0 c.args.maker.now c.loop-index.maker c.in_err-count.field-0.0 made.2
     (λ others pick h. next_behind listed (take (length listed - i) (drop i listed)) i made.0 others pick made.1 rest h)
     c.in_err-count.ensures.refused)

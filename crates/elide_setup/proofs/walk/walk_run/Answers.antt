@@ -14,7 +14,8 @@ loop-done-preserved g c =
       made = (
         made.0 ++ others.0,
         picks_alike made.0 others.0 (lone_pick c.args.core) c.loop-done.done c.in_ok-made.made made.1 others.1,
-        leads_more g.S.StepMaker.takes made.0 others.0 c.args.maker.now c.loop-done.maker c.make_run.new.self made.2 others.2,
+        leads_more g.S.StepMaker.takes made.0 others.0 c.args.maker.now c.loop-done.maker c.make_run.new.self
+            made.2 others.2,
       );
     }
 

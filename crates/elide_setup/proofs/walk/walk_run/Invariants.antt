@@ -9,7 +9,8 @@ use Rattle.elide_setup.proofs.walk.walk_run.Given as goal
 abbrev pub invariant-loop-done : goal.invariant-loop-done
 invariant-loop-done g l = record {
   most : l.done ≤ l.fn.count;
-  made : (made : List (Pick × Outcome)) × (picks_made made ≡ replicate l.done (lone_pick l.fn.core)) × Leads g.S.StepMaker.takes l.initial.maker made l.maker;
+  made : (made : List (Pick × Outcome)) × (picks_made made ≡ replicate l.done (lone_pick l.fn.core))
+      × Leads g.S.StepMaker.takes l.initial.maker made l.maker;
 }
 
 abbrev pub decreases-loop-done : goal.decreases-loop-done

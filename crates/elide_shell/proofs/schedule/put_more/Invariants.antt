@@ -6,4 +6,5 @@ use Rattle.elide_shell.proofs.schedule.put_more.Given as goal
 
 -- the steps so far were written
 abbrev pub invariant-loop-pick : goal.invariant-loop-pick
-invariant-loop-pick g l = Wrote (g.O.Out.device l.initial.out) (g.O.Out.device l.out) (flat_map (λ pick. 32 ∷ pick_word pick) (take l.pick-index l.picks))
+invariant-loop-pick g l = Wrote (g.O.Out.device l.initial.out) (g.O.Out.device l.out)
+    (flat_map (λ pick. 32 ∷ pick_word pick) (take l.pick-index l.picks))

@@ -6,4 +6,5 @@ use Rattle.elide_shell.proofs.words.put_bytes.Given as goal
 
 -- the bytes so far were written
 abbrev pub invariant-loop-byte : goal.invariant-loop-byte
-invariant-loop-byte g l = Wrote (g.O.Out.device l.initial.out) (g.O.Out.device l.out) (flat_map quoted_byte (take l.byte-index l.bytes))
+invariant-loop-byte g l =
+    Wrote (g.O.Out.device l.initial.out) (g.O.Out.device l.out) (flat_map quoted_byte (take l.byte-index l.bytes))

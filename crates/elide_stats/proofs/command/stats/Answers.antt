@@ -21,9 +21,11 @@ returns-clause-ran g c =
     × ((other : List ℕ) → given other ≡ next other)
     × HasRunPlan given left file c.in_ok-settings.settings c.in_ok-plan.plan c.in_ok-path.path).
     subst Runs c.in_ok-path.ensures.given
-    (of_plan content made.1 left options.machine options.schedule c.in_ok-path.path made.0 c.in_ok-settings.settings c.in_ok-plan.plan
+    (of_plan content made.1 left options.machine options.schedule c.in_ok-path.path made.0 c.in_ok-settings.settings
+    c.in_ok-plan.plan
     (λ other. made.3 other ∙ c.record_path.ensures.kept other)
-    (subst (λ (held : Option (List ℕ)). IsRead held made.0) (c.record_path.ensures.kept options.machine.file.now) made.2)
+    (subst (λ (held : Option (List ℕ)). IsRead held made.0)
+    (c.record_path.ensures.kept options.machine.file.now) made.2)
     c.in_ok-settings.ensures.settings
     (λ picks. c.in_ok-plan.ensures.steps content picks)
     c.in_ok-plan.ensures.listed made.4))
@@ -41,7 +43,8 @@ pub returns-clause-refused : goal.returns-clause-refused
 returns-clause-refused g c =
     let content : List ℕ → Option (List ℕ) = g.P.Paths.content c.args.paths.now in
     let options = c.args.options.now in
-    IfErr-weaker c.stats_of_path.result (IsNotCounted content options) (IsRefused content (g.P.Paths.are_one c.args.paths.now) options)
+    IfErr-weaker c.stats_of_path.result (IsNotCounted content options)
+    (IsRefused content (g.P.Paths.are_one c.args.paths.now) options)
     (λ why h. inr h) (c.stats_of_path.ensures.refused content c.record_path.ensures.kept)
 
 pub returns-in_err-path-clause-refused : goal.returns-in_err-path-clause-refused

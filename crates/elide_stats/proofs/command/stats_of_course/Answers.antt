@@ -29,4 +29,5 @@ returns-in_err-run_course-clause-refused g c =
     let why = c.in_err-run_course.field-0.0 in
     let p = err_from_is_err_and c.from_residual.result c.from_residual.ensures.1 in
     rw (p.1, p.2)
-    (uncounted (subst (λ (cores : ℕ). IsUncounted c.args.course.now cores path why) c.requires.cores c.in_err-run_course.ensures.refused))
+    (uncounted (subst (λ (cores : ℕ). IsUncounted c.args.course.now cores path why) c.requires.cores
+    c.in_err-run_course.ensures.refused))

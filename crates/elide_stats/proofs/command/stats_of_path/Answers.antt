@@ -13,7 +13,9 @@ returns-clause-ran g c =
     let given = g.P.Paths.content c.read_file.new.paths in
     let left = g.P.Paths.content c.stats_of_text.new.paths in
     on_ok_weaker c.stats_of_text.result
-    (λ (made : (file : ProgramFile) × IsFile c.as_slice.result.now file × HasRunPlan given left file c.args.asked.now.settings c.args.plan c.args.asked.now.path). (
+    (λ (made :
+    (file : ProgramFile) × IsFile c.as_slice.result.now file
+    × HasRunPlan given left file c.args.asked.now.settings c.args.plan c.args.asked.now.path). (
       made.0,
       given,
       record {
@@ -31,7 +33,8 @@ returns-clause-refused g c content same =
     let file = c.args.asked.now.options.now.machine.file.now in
     let given : Gives (content file) most_bytes c.as_slice.result.now =
     subst (Gives (content file) most_bytes) (sym c.as_slice.ensures.value)
-    (subst (λ (known : Option (List ℕ)). Gives known most_bytes c.in_ok-text.text.items) (same file) c.in_ok-text.ensures.given) in
+    (subst (λ (known : Option (List ℕ)). Gives known most_bytes c.in_ok-text.text.items) (same file)
+    c.in_ok-text.ensures.given) in
     c.stats_of_text.ensures.refused content (λ other. c.read_file.ensures.kept other ∙ same other) given
 
 pub returns-in_err-text-clause-refused : goal.returns-in_err-text-clause-refused

@@ -18,9 +18,12 @@ returns-clause-ran g c =
     let left = g.P.Paths.content c.stats_of_course-told.new.paths in
     let first = c.in_ok-counting.counting.machine in
     let begun : IsRunOf setup.program setup.limits [] first =
-    subst (λ (m : ShownMachine). IsRunOf setup.program setup.limits [] m) (sym c.in_ok-counting.ensures.machine) c.in_ok-machine.ensures.made in
+    subst (λ (m : ShownMachine). IsRunOf setup.program setup.limits [] m) (sym c.in_ok-counting.ensures.machine)
+    c.in_ok-machine.ensures.made in
     on_ok_weaker c.stats_of_course-told.result
-    (λ (h : (made : List (Pick × Outcome)) × (after : ShownMachine) × AreOf course (picks_made made) × Leads AreMachineSteps first made after
+    (λ (h :
+    (made : List (Pick × Outcome)) × (after : ShownMachine) × AreOf course (picks_made made)
+    × Leads AreMachineSteps first made after
     × IsRecorded left c.args.asked.now.path (schedule_made course (picks_told made))). record {
       made = h.0;
       steps = h.2;

@@ -7,9 +7,12 @@ pub loop-index-preserved : goal.loop-index-preserved
 loop-index-preserved c =
     let entries = c.args.places.now.entries in
     let entry = c.unwrap.result in
-    let there = entry_at entries c.loop-index.index c.get_index.result entry c.get_index.ensures.entry c.unwrap.ensures in
-    sum_more lost_of_place entries c.loop-index.index (entry.0.now, entry.1.now) c.loop-index.steps entry.1.now.lost c.saturating_add-steps.result
+    let there =
+    entry_at entries c.loop-index.index c.get_index.result entry c.get_index.ensures.entry c.unwrap.ensures in
+    sum_more lost_of_place entries c.loop-index.index (entry.0.now, entry.1.now) c.loop-index.steps entry.1.now.lost
+    c.saturating_add-steps.result
     there c.loop-index.invariant (λ few. refl) (λ few. omega arith)
 
 pub returns : goal.returns
-returns c = sum_all lost_of_place c.args.places.now.entries c.loop-index.index c.loop-index.steps (omega arith) c.loop-index.invariant
+returns c = sum_all lost_of_place c.args.places.now.entries c.loop-index.index c.loop-index.steps (omega arith)
+    c.loop-index.invariant

@@ -16,5 +16,15 @@ returns g c =
     let tests = sent_equal (codes "tests") (list_value test_value) _ file.tests.items _ _
     c.as_slice.ensures.value c.in_ok-send_tests.ensures in
     on_ok_weaker c.end_map.result
-    (λ ended. (written c.begin_map.new.self, c.in_ok-begin_map.ensures, (name.0, written c.send_text.new.out, name.1, name.2, (tests.0, written c.send_tests.new.out, tests.1, tests.2, ended))))
+    (λ ended. (
+      written c.begin_map.new.self,
+      c.in_ok-begin_map.ensures,
+      (
+        name.0,
+        written c.send_text.new.out,
+        name.1,
+        name.2,
+        (tests.0, written c.send_tests.new.out, tests.1, tests.2, ended),
+      ),
+    ))
     c.end_map.ensures

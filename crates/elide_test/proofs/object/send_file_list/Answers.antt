@@ -8,7 +8,8 @@ use Rattle.elide_test.proofs.object.send_file_list.Goals as goal
 
 pub loop-file-preserved : goal.loop-file-preserved
 loop-file-preserved g c =
-    WritesEach-more (λ file. SendsValue (file_value file)) c.args.files.now c.loop-file.file-index c.file-item.result _ _ _
+    WritesEach-more (λ file. SendsValue (file_value file)) c.args.files.now c.loop-file.file-index
+    c.file-item.result _ _ _
     (search rules) (search rules) c.loop-file.invariant c.in_ok-send_file.ensures
 
 pub returns : goal.returns

@@ -20,5 +20,39 @@ returns g c =
     c.in_ok-send_number-2.ensures in
     let refusal = c.in_ok-send_refusal.ensures in
     on_ok_weaker c.end_map.result
-    (λ ended. (written c.begin_map.new.self, c.in_ok-begin_map.ensures, (line.0, written c.send_number.new.out, line.1, line.2, (word.0, written c.send_text.new.out, word.1, word.2, (met.0, written c.send_flag.new.out, met.1, met.2, (unmet.0, written c.send_unmet.new.out, unmet.1, unmet.2, (status.0, written c.send_number-2.new.out, status.1, status.2, (refusal.0, written c.send_refusal.new.out, refusal.1, refusal.2, ended))))))))
+    (λ ended. (
+      written c.begin_map.new.self,
+      c.in_ok-begin_map.ensures,
+      (
+        line.0,
+        written c.send_number.new.out,
+        line.1,
+        line.2,
+        (
+          word.0,
+          written c.send_text.new.out,
+          word.1,
+          word.2,
+          (
+            met.0,
+            written c.send_flag.new.out,
+            met.1,
+            met.2,
+            (
+              unmet.0,
+              written c.send_unmet.new.out,
+              unmet.1,
+              unmet.2,
+              (
+                status.0,
+                written c.send_number-2.new.out,
+                status.1,
+                status.2,
+                (refusal.0, written c.send_refusal.new.out, refusal.1, refusal.2, ended),
+              ),
+            ),
+          ),
+        ),
+      ),
+    ))
     c.end_map.ensures

@@ -8,7 +8,8 @@ use Rattle.elide_test.proofs.object.send_test_list.Goals as goal
 
 pub loop-test-preserved : goal.loop-test-preserved
 loop-test-preserved g c =
-    WritesEach-more (λ test. SendsValue (test_value test)) c.args.tests.now c.loop-test.test-index c.test-item.result _ _ _
+    WritesEach-more (λ test. SendsValue (test_value test)) c.args.tests.now c.loop-test.test-index
+    c.test-item.result _ _ _
     (search rules) (search rules) c.loop-test.invariant c.in_ok-send_test.ensures
 
 pub returns : goal.returns

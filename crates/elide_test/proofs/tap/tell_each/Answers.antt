@@ -22,5 +22,7 @@ loop-file-preserved g c =
     ≡ files_text 0 (take i files) ++ file_text c.loop-file.before item =
     files_more files i item c.loop-file.before test before
     ∙ ap (λ (f : FileReport). files_text 0 (take i files) ++ file_text c.loop-file.before f) last in
-    let Told : List ℕ → Type 0 = λ text. Wrote (device c.args.out.now) (device c.tell_file.new.out) text in
-    (omega (arith, c.in-Some.ensures.count), subst Told (sym more) (wrote_then c.loop-file.invariant.1 c.in_ok-tell_file.ensures))
+    let Told : List ℕ → Type 0 = λ text. Wrote (device c.args.out.now) (device c.tell_file.new.out) text in (
+      omega (arith, c.in-Some.ensures.count),
+      subst Told (sym more) (wrote_then c.loop-file.invariant.1 c.in_ok-tell_file.ensures),
+    )

@@ -11,4 +11,5 @@ returns g c =
     let device = g.O.Out.device in
     let TellsCount : ℕ → Type 0 = λ n. Wrote (device c.put-2.new.self) (device c.tell_number.new.out) (decimal n) in
     let count = subst TellsCount c.in_ok-count.ensures.count c.in_ok-tell_number.ensures in
-    wrote_then c.in_ok-put.ensures (wrote_then c.in_ok-count.ensures.told (wrote_then c.in_ok-put-2.ensures (wrote_then count c.in_ok-put-3.ensures)))
+    wrote_then c.in_ok-put.ensures
+    (wrote_then c.in_ok-count.ensures.told (wrote_then c.in_ok-put-2.ensures (wrote_then count c.in_ok-put-3.ensures)))

@@ -19,6 +19,7 @@ loop-report-preserved g c =
     let more : tests_text name before (take (i + 1) reports)
     ≡ tests_text name before (take i reports) ++ test_text name (c.loop-report.number + 1) item =
     tests_more name before reports i item (c.loop-report.number + 1) c.loop-report-test.true number
-    ∙ ap (λ (x : TestReport). tests_text name before (take i reports) ++ test_text name (c.loop-report.number + 1) x) last in
+    ∙ ap (λ (x : TestReport). tests_text name before (take i reports) ++ test_text name (c.loop-report.number + 1) x)
+    last in
     let Told : List ℕ → Type 0 = λ text. Wrote (device c.args.out.now) (device c.tell_test.new.out) text in
     (omega arith, subst Told (sym more) (wrote_then c.loop-report.invariant.1 c.in_ok-tell_test.ensures))

@@ -7,4 +7,5 @@ use Rattle.elide_test.proofs.tap.tell_tests.Given as goal
 abbrev pub invariant-loop-report : goal.invariant-loop-report
 invariant-loop-report g l =
     (l.number ≡ l.before + l.report-index) ×
-    Wrote (g.O.Out.device l.initial.out) (g.O.Out.device l.out) (tests_text l.name l.before (take l.report-index l.reports))
+    Wrote (g.O.Out.device l.initial.out) (g.O.Out.device l.out)
+    (tests_text l.name l.before (take l.report-index l.reports))

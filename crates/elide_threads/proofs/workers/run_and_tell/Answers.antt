@@ -11,7 +11,13 @@ returns-clause-refused g c =
     let board = c.in_ok-board-2.board in
     IfErr-weaker c.tell_run-end.result (IsNotTold setup board) (IsNoWork setup work.budget work.plan work.path)
     (λ why h. not_told board
-    (record { first = c.in_ok-board.board; new = c.in_ok-board.ensures.made; steps = c.in_ok-board-2.ensures.report.0; report = c.in_ok-board-2.ensures.report.1; drawn = c.in_ok-board-2.ensures.events }) h)
+    (record {
+      first = c.in_ok-board.board;
+      new = c.in_ok-board.ensures.made;
+      steps = c.in_ok-board-2.ensures.report.0;
+      report = c.in_ok-board-2.ensures.report.1;
+      drawn = c.in_ok-board-2.ensures.events;
+    }) h)
     (c.tell_run-end.ensures.refused)
 
 pub returns-in_err-board-clause-refused : goal.returns-in_err-board-clause-refused

@@ -11,5 +11,6 @@ returns-then-options-clause-refused g c =
     let setup = c.args.setup.now in
     let board = c.args.board.now in
     IfErr-weaker c.put_threads.result (IsUnsent c.machine.result.now.memory setup.parts) (IsNotTold setup board)
-    (λ why h. of_object setup board why (subst (λ (m : Machine). IsUnsent m.memory setup.parts why) c.machine.ensures h))
+    (λ why h. of_object setup board why
+    (subst (λ (m : Machine). IsUnsent m.memory setup.parts why) c.machine.ensures h))
     c.put_threads.ensures.unsent

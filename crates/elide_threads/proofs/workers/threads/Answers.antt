@@ -27,9 +27,11 @@ returns-clause-printed g c =
     let plan = c.in_ok-work.work.plan in
     let bytes : List ℕ = c.in_ok-text.text.items in
     let given : Gives (content options.machine.file.now) most_bytes bytes =
-    subst (λ (known : Option (List ℕ)). Gives known most_bytes bytes) (c.read-2.ensures.kept options.machine.file.now) c.in_ok-text.ensures.given in
+    subst (λ (known : Option (List ℕ)). Gives known most_bytes bytes) (c.read-2.ensures.kept options.machine.file.now)
+    c.in_ok-text.ensures.given in
     IfOk-weaker c.threads_of_text-end.result
-    (λ (device : g.row.O.Denot). (file : ProgramFile) × (setup : Setup) × (board : Board) × IsFile c.as_slice.result.now file × IsSetup file settings setup
+    (λ (device : g.row.O.Denot). (file : ProgramFile) × (setup : Setup) × (board : Board)
+    × IsFile c.as_slice.result.now file × IsSetup file settings setup
     × IsWorked setup budget plan board
     × IsTold options setup board (g.O.Out.device c.args.out).contents (g.O.Out.device device).contents
     × IsRecorded left c.in_ok-work.work.path (schedule_text (picks_of board.history)))
@@ -37,7 +39,17 @@ returns-clause-printed g c =
     IsPrinted content left options (g.O.Out.device c.args.out).contents (g.O.Out.device device).contents)
     (λ device t. record {
       setup = t.1;
-      asked = record { file = t.0; read = record { text = bytes; given = given; read = subst (λ (text : List ℕ). IsFile text t.0) c.as_slice.ensures.value t.3 }; settings = settings; said = c.in_ok-settings.ensures.settings; made = t.4 };
+      asked = record {
+        file = t.0;
+        read = record {
+          text = bytes;
+          given = given;
+          read = subst (λ (text : List ℕ). IsFile text t.0) c.as_slice.ensures.value t.3;
+        };
+        settings = settings;
+        said = c.in_ok-settings.ensures.settings;
+        made = t.4;
+      };
       budget = budget;
       said = c.in_ok-work.ensures.budget;
       plan = plan;
@@ -53,12 +65,14 @@ returns-clause-printed g c =
 pub returns-in_err-settings-clause-refused : goal.returns-in_err-settings-clause-refused
 returns-in_err-settings-clause-refused g c =
     let p = err_from_is_err_and c.from_residual.result c.from_residual.ensures.1 in
-    rw (p.1, p.2) (without_program (λ any. no_setup c.in_err-settings.field-0.0 (misread c.in_err-settings.ensures.misread) refl))
+    rw (p.1, p.2)
+    (without_program (λ any. no_setup c.in_err-settings.field-0.0 (misread c.in_err-settings.ensures.misread) refl))
 
 pub returns-in_err-text-clause-refused : goal.returns-in_err-text-clause-refused
 returns-in_err-text-clause-refused g c =
     let p = err_from_is_err_and c.from_residual-in_err-text.result c.from_residual-in_err-text.ensures.1 in
-    rw (p.1, p.2) (without_program (λ any. no_setup c.in_err-text.field-0.0 (not_read (rw (c.read-2.ensures.kept c.args.options.now.machine.file.now) at c.in_err-text.ensures.given)) refl))
+    rw (p.1, p.2) (without_program (λ any. no_setup c.in_err-text.field-0.0
+    (not_read (rw (c.read-2.ensures.kept c.args.options.now.machine.file.now) at c.in_err-text.ensures.given)) refl))
 
 pub returns-clause-refused : goal.returns-clause-refused
 returns-clause-refused g c =
@@ -66,8 +80,10 @@ returns-clause-refused g c =
     let file = c.args.options.now.machine.file.now in
     let given : Gives (content file) most_bytes c.as_slice.result.now =
     subst (Gives (content file) most_bytes) (sym c.as_slice.ensures.value)
-    (subst (λ (known : Option (List ℕ)). Gives known most_bytes c.in_ok-text.text.items) (c.read-2.ensures.kept file) c.in_ok-text.ensures.given) in
-    c.threads_of_text-end.ensures.refused content (g.P.Paths.are_one c.args.paths.now) given c.in_ok-settings.ensures.settings
+    (subst (λ (known : Option (List ℕ)). Gives known most_bytes c.in_ok-text.text.items) (c.read-2.ensures.kept file)
+    c.in_ok-text.ensures.given) in
+    c.threads_of_text-end.ensures.refused content (g.P.Paths.are_one c.args.paths.now) given
+    c.in_ok-settings.ensures.settings
     c.in_ok-work.ensures.budget c.in_ok-work.ensures.plan c.in_ok-work.ensures.path
 
 pub returns-in_err-work-clause-refused : goal.returns-in_err-work-clause-refused

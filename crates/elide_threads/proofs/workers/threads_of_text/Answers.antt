@@ -33,20 +33,31 @@ returns-clause-told g c =
 pub returns-in_err-file-clause-refused : goal.returns-in_err-file-clause-refused
 returns-in_err-file-clause-refused g c content are_one given said budget plan path =
     let p = err_from_is_err_and c.from_residual.result c.from_residual.ensures.1 in
-    rw (p.1, p.2) (without_program (λ any. no_setup c.in_err-file.field-0.0 (no_program c.args.text.now given c.in_err-file.ensures.none) refl))
+    rw (p.1, p.2)
+    (without_program
+    (λ any. no_setup c.in_err-file.field-0.0 (no_program c.args.text.now given c.in_err-file.ensures.none) refl))
 
 pub returns-in_err-setup-clause-refused : goal.returns-in_err-setup-clause-refused
 returns-in_err-setup-clause-refused g c content are_one given said budget plan path =
     let none = c.in_err-setup.ensures.none in
     let p = err_from_is_err_and c.from_residual-in_err-setup.result c.from_residual-in_err-setup.ensures.1 in
-    rw (p.1, p.2) (without_program (λ any. no_setup none.0 (not_loaded c.in_ok-file.file c.args.settings.now (record { text = c.args.text.now; given = given; read = c.in_ok-file.ensures.file }) said none.2) none.1))
+    rw (p.1, p.2) (without_program (λ any. no_setup none.0 (not_loaded c.in_ok-file.file c.args.settings.now
+    (record { text = c.args.text.now; given = given; read = c.in_ok-file.ensures.file }) said none.2) none.1))
 
 pub returns-clause-refused : goal.returns-clause-refused
 returns-clause-refused g c content are_one given said budget plan path =
     let setup = c.in_ok-setup.setup in
     let work = c.args.work in
-    IfErr-weaker c.run_and_tell-end.result (IsNoWork setup work.budget work.plan work.path) (IsRefused content are_one c.args.options.now)
+    IfErr-weaker c.run_and_tell-end.result (IsNoWork setup work.budget work.plan work.path)
+    (IsRefused content are_one c.args.options.now)
     (λ why h. no_work setup work.budget work.plan
-    (record { file = c.in_ok-file.file; read = record { text = c.args.text.now; given = given; read = c.in_ok-file.ensures.file }; settings = c.args.settings.now; said = said; made = c.in_ok-setup.ensures.setup })
-    budget plan (subst (λ (recorded : Option (Bor (List ℕ))). IsNoWork setup work.budget work.plan recorded why) path h))
+    (record {
+      file = c.in_ok-file.file;
+      read = record { text = c.args.text.now; given = given; read = c.in_ok-file.ensures.file };
+      settings = c.args.settings.now;
+      said = said;
+      made = c.in_ok-setup.ensures.setup;
+    })
+    budget plan
+    (subst (λ (recorded : Option (Bor (List ℕ))). IsNoWork setup work.budget work.plan recorded why) path h))
     (c.run_and_tell-end.ensures.refused)

@@ -8,7 +8,8 @@ pub returns-clause-none : goal.returns-clause-none
 returns-clause-none g c =
     let content : List ℕ → Option (List ℕ) = g.P.Paths.content c.args.paths.now in
     c.labels_with-found.ensures.none content c.args.machine.now c.args.schedule.now c.read_file.ensures.kept
-    (subst (Gives (content c.args.machine.now.file.now) most_bytes) (sym c.as_slice.ensures.value) c.in_ok-text.ensures.given)
+    (subst (Gives (content c.args.machine.now.file.now) most_bytes) (sym c.as_slice.ensures.value)
+    c.in_ok-text.ensures.given)
     c.in_ok-settings.ensures.settings c.in_ok-plan.ensures.path
 
 pub returns-in_err-settings-clause-none : goal.returns-in_err-settings-clause-none

@@ -5,7 +5,8 @@ use Rattle.elide_trial.proofs.carrier.carried_out.Goals as goal
 
 pub returns : goal.returns
 returns g c =
-    let files : FolderPaths g.row.S.Denot = record { alloc = c.args.alloc; paths = c.args.paths; folder = c.args.folder } in
+    let files : FolderPaths g.row.S.Denot =
+    record { alloc = c.args.alloc; paths = c.args.paths; folder = c.args.folder } in
     record {
       given = c.args.words;
       same_words = refl;

@@ -11,7 +11,8 @@ use Rattle.elide_trial.proofs.trial.try_tests.Goals as goal
 pub loop-test-preserved : goal.loop-test-preserved
 loop-test-preserved g c =
     let Tried : TestContent → TestReport → Type 0 =
-    WasTried (CameTo (goal.C-post g c.args.call.now) c.args.paths.now) (option_copied c.args.folder) c.args.program.now in
+    WasTried (CameTo (goal.C-post g c.args.call.now) c.args.paths.now) (option_copied c.args.folder)
+    c.args.program.now in
     let tests = c.args.tests.now in
     let i = c.loop-test.test-index in
     let item = c.test-item.result in

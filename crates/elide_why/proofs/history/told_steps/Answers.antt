@@ -21,8 +21,10 @@ loop-index-preserved g c =
       | in-Some+in_ok-step w ↦
           let more = w.in_ok-step.ensures.told in (
             before.0 ++ more.0,
-            subst (λ out. Wrote (g.O.Out.device c.args.out.now) (g.O.Out.device out) (before.0 ++ more.0)) (sym w.out-is) (wrote_then before.1 more.1),
-            subst (λ (m : Machine). length m.views ≡ entries) (sym w.machine-is) (w.in_ok-step.ensures.step.same.cores ∙ before.2),
+            subst (λ out. Wrote (g.O.Out.device c.args.out.now) (g.O.Out.device out) (before.0 ++ more.0))
+                (sym w.out-is) (wrote_then before.1 more.1),
+            subst (λ (m : Machine). length m.views ≡ entries) (sym w.machine-is)
+                (w.in_ok-step.ensures.step.same.cores ∙ before.2),
           )
       | in_default w ↦ (
         before.0,

@@ -10,7 +10,8 @@ returns-in_err-put g c =
 
 pub returns-in_err-write_words : goal.returns-in_err-write_words
 returns-in_err-write_words g c =
-    let rest = writes_stopped c.args.back.now c.from_residual-in_err-write_words.result (search rules) c.in_err-write_words.ensures in
+    let rest = writes_stopped c.args.back.now c.from_residual-in_err-write_words.result (search rules)
+    c.in_err-write_words.ensures in
     writes_then _ (insn_words c.args.words.now.insn c.args.words.now.eip ++ c.args.back.now)
     c.from_residual-in_err-write_words.result c.in_ok-put.ensures rest
 

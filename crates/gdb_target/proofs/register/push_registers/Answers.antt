@@ -8,7 +8,9 @@ registers-preserved c =
     let place : c.registers.number ≡ 0 + c.registers.number = omega arith in
     record {
       text =
-          row_more (λ number. register_text (register_of c.args.core.now number)) 0 c.registers.number c.args.row.now.items c.registers.row.items c.push_register.new.row.items _
-          c.registers.invariant.text (ap (λ n. register_text (register_of c.args.core.now n)) place) c.push_register.ensures.text;
+          row_more (λ number. register_text (register_of c.args.core.now number)) 0 c.registers.number
+          c.args.row.now.items c.registers.row.items c.push_register.new.row.items _
+          c.registers.invariant.text (ap (λ n. register_text (register_of c.args.core.now n)) place)
+          c.push_register.ensures.text;
       few = omega arith;
     }

@@ -4,7 +4,8 @@ use Rattle.ia_alu.proofs.SetBits.{cleared, mask_is, set, small_mask, turned}
 use Rattle.ia_alu.proofs.bits.changed.Goals as goal
 
 pub returns-in-Bts : goal.returns-in-Bts
-returns-in-Bts c = ap (bit_or c.args.a) (mask_is c.args.place c.requires) ∙ set c.args.a c.args.place ∙ ap (λ o. bit_value o c.args.a c.args.place) (sym c.in-Bts.is)
+returns-in-Bts c = ap (bit_or c.args.a) (mask_is c.args.place c.requires) ∙ set c.args.a c.args.place
+    ∙ ap (λ o. bit_value o c.args.a c.args.place) (sym c.in-Bts.is)
 
 pub returns-in-Btr : goal.returns-in-Btr
 returns-in-Btr c =
@@ -13,4 +14,5 @@ returns-in-Btr c =
     ∙ ap (λ o. bit_value o c.args.a c.args.place) (sym c.in-Btr.is)
 
 pub returns-in-Btc : goal.returns-in-Btc
-returns-in-Btc c = ap (bit_xor c.args.a) (mask_is c.args.place c.requires) ∙ turned c.args.a c.args.place ∙ ap (λ o. bit_value o c.args.a c.args.place) (sym c.in-Btc.is)
+returns-in-Btc c = ap (bit_xor c.args.a) (mask_is c.args.place c.requires) ∙ turned c.args.a c.args.place
+    ∙ ap (λ o. bit_value o c.args.a c.args.place) (sym c.in-Btc.is)

@@ -1,7 +1,8 @@
 use Rattle.std.proofs.Common.{◌∙◌, ap, rules}
 use Rattle.ia_alu.specs.Products.{product_flags}
 use Rattle.ia_regs.specs.Flags.{has_carry, has_parity, has_adjust, has_zero, has_sign, has_overflow}
-use Rattle.ia_alu.proofs.Readings.{reads_le, product_carry, product_overflow, parity_kept, adjust_kept, zero_kept, sign_kept}
+use Rattle.ia_alu.proofs.Readings.{reads_le, product_carry, product_overflow, parity_kept, adjust_kept, zero_kept}
+use Rattle.ia_alu.proofs.Readings.{sign_kept}
 use Rattle.ia_alu.proofs.products.mul.Goals as goal
 
 pub returns-clause-flags : goal.returns-clause-flags

@@ -1,6 +1,7 @@
 use Rattle.std.proofs.Common.{◌∙◌, ap, rules}
 use Rattle.ia_regs.specs.Flags.{has_carry, has_parity, has_adjust, has_zero, has_sign, has_overflow}
-use Rattle.ia_alu.proofs.Readings.{reads_outside, carry_written, overflow_written, parity_kept, adjust_kept, zero_kept, sign_kept}
+use Rattle.ia_alu.proofs.Readings.{reads_outside, carry_written, overflow_written, parity_kept, adjust_kept, zero_kept}
+use Rattle.ia_alu.proofs.Readings.{sign_kept}
 use Rattle.ia_alu.proofs.products.signed_flags.Goals as goal
 
 pub returns-clause-flags : goal.returns-clause-flags

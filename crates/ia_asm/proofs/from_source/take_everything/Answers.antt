@@ -8,5 +8,10 @@ returns c =
     let e = c.new.ensures in
     let taken = c.in_ok-taken.taken in
     let bytes = has_bytes es layout c.new.result taken.first.first laid e.symbols e.code e.tail kept.0.0.0 kept.0.0.1 in
-    let names = names_are es c.new-2.result taken.first.second c.new-2.ensures kept.0.1 in
-    (es, asks, fits, laid, (bytes, names, listing_is es layout c.new-3.result taken.second laid c.new-3.ensures.empty kept.1))
+    let names = names_are es c.new-2.result taken.first.second c.new-2.ensures kept.0.1 in (
+      es,
+      asks,
+      fits,
+      laid,
+      (bytes, names, listing_is es layout c.new-3.result taken.second laid c.new-3.ensures.empty kept.1),
+    )

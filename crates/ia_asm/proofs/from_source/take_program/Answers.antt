@@ -6,5 +6,6 @@ returns c =
     let (es, asks, fits, laid, kept) = c.in_ok-taken.ensures in
     let e = c.new.ensures in
     let taken = c.in_ok-taken.taken in
-    let bytes = has_bytes es c.args.layout.now c.new.result taken.first laid e.symbols e.code e.tail kept.0.0 kept.0.1 in
+    let bytes =
+    has_bytes es c.args.layout.now c.new.result taken.first laid e.symbols e.code e.tail kept.0.0 kept.0.1 in
     (es, asks, fits, laid, (bytes, names_are es c.new-2.result taken.second c.new-2.ensures kept.1))

@@ -12,5 +12,6 @@ returns-clause-exact c =
       es,
       reads,
       fits,
-      c.base.ensures ∙ given_all base_with c.new-first.result c.go_over.new.walk es kept ∙ ap (λ o. or_base o (base_of es)) c.new-first.ensures,
+      c.base.ensures ∙ given_all base_with c.new-first.result c.go_over.new.walk es kept
+          ∙ ap (λ o. or_base o (base_of es)) c.new-first.ensures,
     )

@@ -18,10 +18,12 @@ returns-clause-exact c =
     let spots = places (start layout.base layout.tail) es in
     let search = c.in_ok-placer.placer.taker in
     let are : ArePlaced es layout = of_read source names (λ es. ArePlaced es layout) es reads
-    (of_more source c.args.reader.now.names names (λ es. ArePlaced es layout) c.in_ok-placer.ensures.grows c.requires) in (
+    (of_more source c.args.reader.now.names names (λ es. ArePlaced es layout) c.in_ok-placer.ensures.grows
+    c.requires) in (
       es,
       reads,
       fits,
       sym (ended (known search.symbols.now.values.entries) search.base search.found)
-          ∙ given_all faults_with c.new-search.result search spots taken ∙ c.new-search.ensures spots ∙ fault_is es layout are,
+          ∙ given_all faults_with c.new-search.result search spots taken ∙ c.new-search.ensures spots
+          ∙ fault_is es layout are,
     )

@@ -11,5 +11,11 @@ returns g c =
     let names = c.place_all.new.reader.names in
     let layout = c.args.layout.now in
     let laid : IsLayout es layout = of_read source names (λ es. IsLayout es layout) es reads
-    (of_more source c.args.reader.now.names names (λ es. IsLayout es layout) c.in_ok-placer.ensures.grows c.requires) in
-    (es, asks_for source names es reads, fits, laid, subst (λ ps. g.T.Taker.Taken c.args.taker ps c.in_ok-placer.placer.taker) (all_laid es layout laid.1) taken)
+    (of_more source c.args.reader.now.names names (λ es. IsLayout es layout) c.in_ok-placer.ensures.grows
+    c.requires) in (
+      es,
+      asks_for source names es reads,
+      fits,
+      laid,
+      subst (λ ps. g.T.Taker.Taken c.args.taker ps c.in_ok-placer.placer.taker) (all_laid es layout laid.1) taken,
+    )

@@ -25,7 +25,8 @@ pub load-requires-clause-in_order : goal.load-requires-clause-in_order
 load-requires-clause-in_order c = c.in_ok-tested.ensures.passed Overlap (omega arith)
 
 pub word_at-requires : goal.word_at-requires
-word_at-requires c = let whole = c.in_ok-tested.ensures.passed Damaged (omega arith) in let h = whole.header.header in omega arith
+word_at-requires c =
+    let whole = c.in_ok-tested.ensures.passed Damaged (omega arith) in let h = whole.header.header in omega arith
 
 pub returns-clause-fits : goal.returns-clause-fits
 returns-clause-fits c =
@@ -34,6 +35,7 @@ returns-clause-fits c =
     let base = c.base-base.result in
     let tested = c.in_ok-tested.tested in
     let code = code_fits file bytes base tested.code_end c.in_ok-bytes.ensures c.in_ok-tested.ensures.code_end in
-    let all = bytes_fit file bytes base tested.end c.in_ok-bytes.ensures (c.in_ok-tested.ensures.passed Damaged (omega arith)) c.in_ok-tested.ensures.end in
+    let all = bytes_fit file bytes base tested.end c.in_ok-bytes.ensures
+    (c.in_ok-tested.ensures.passed Damaged (omega arith)) c.in_ok-tested.ensures.end in
     let low = c.in_ok-tested.ensures.low in
     (omega arith, all, low.1)

@@ -9,8 +9,10 @@ use Rattle.ia_elf.proofs.layout.memory_end_in_order.Goals.{then-loads+else-from-
 pub returns-then-from-end-clause-none : goal.returns-then-from-end-clause-none
 returns-then-from-end-clause-none c =
     let within : c.loop-number.number < e_phnum c.args.file.now = (search rules) in
-    ends_refused c.args.file.now c.loop-number.number c.loop-number.end c.segment_at-segment.result c.loop-number.invariant within
-    c.segment_at-segment.ensures (holds c.loads.result (Loads c.segment_at-segment.result) c.loads.ensures c.if-loads.true) (omega arith)
+    ends_refused c.args.file.now c.loop-number.number c.loop-number.end c.segment_at-segment.result
+    c.loop-number.invariant within
+    c.segment_at-segment.ensures
+    (holds c.loads.result (Loads c.segment_at-segment.result) c.loads.ensures c.if-loads.true) (omega arith)
 
 pub loop-number-preserved : goal.loop-number-preserved
 loop-number-preserved c =
@@ -19,7 +21,9 @@ loop-number-preserved c =
     let s = c.segment_at-segment.result in
     elim c.if-loads.branch [
       | then-loads+else-from-end w ↦ (let loads = holds c.loads.result (Loads s) c.loads.ensures w.if-loads.true in
-          rw (w.end-is, w.memory_end-end.ensures) (ends_more file n c.loop-number.end s c.loop-number.invariant c.segment_at-segment.ensures loads (omega arith)))
+          rw (w.end-is, w.memory_end-end.ensures)
+          (ends_more file n c.loop-number.end s c.loop-number.invariant c.segment_at-segment.ensures
+          loads (omega arith)))
       | else-loads w ↦ (let idle = fails c.loads.result (Loads s) c.loads.ensures w.if-loads.false in
           rw w.end-is (ends_none file n c.loop-number.end s c.loop-number.invariant c.segment_at-segment.ensures idle))
     ]

@@ -10,7 +10,9 @@ pub push_segment-requires-clause-start : goal.push_segment-requires-clause-start
 push_segment-requires-clause-start c =
     let within : c.loop-number.number < e_phnum c.args.file.now = (search rules) in
     let has = holds c.has_bytes.result (HasBytes c.segment_at-segment.result) c.has_bytes.ensures c.if-has_bytes.true in
-    let behind = starts c.args.file.now c.loop-number.bytes.items c.args.base c.loop-number.number c.segment_at-segment.result c.loop-number.invariant c.requires.whole c.requires.base c.requires.in_order within c.segment_at-segment.ensures has in
+    let behind = starts c.args.file.now c.loop-number.bytes.items c.args.base c.loop-number.number
+    c.segment_at-segment.result c.loop-number.invariant c.requires.whole c.requires.base c.requires.in_order within
+    c.segment_at-segment.ensures has in
     omega arith
 
 pub loop-number-preserved : goal.loop-number-preserved
@@ -20,13 +22,19 @@ loop-number-preserved c =
     let s = c.segment_at-segment.result in
     let within : n < e_phnum file = (search rules) in
     elim c.if-has_bytes.branch [
-      | then-has_bytes+in_ok-push_segment w ↦ (let has = holds c.has_bytes.result (HasBytes s) c.has_bytes.ensures w.if-has_bytes.true in
-          loaded_more file c.loop-number.bytes.items c.if-has_bytes.bytes.items c.args.base n s c.loop-number.invariant c.requires.whole c.requires.base c.requires.in_order within c.segment_at-segment.ensures has (rw w.bytes-is w.in_ok-push_segment.ensures))
+      | then-has_bytes+in_ok-push_segment w ↦
+          (let has = holds c.has_bytes.result (HasBytes s) c.has_bytes.ensures w.if-has_bytes.true in
+          loaded_more file c.loop-number.bytes.items c.if-has_bytes.bytes.items c.args.base n s c.loop-number.invariant
+          c.requires.whole c.requires.base c.requires.in_order within c.segment_at-segment.ensures has
+          (rw w.bytes-is w.in_ok-push_segment.ensures))
       | else-has_bytes w ↦ (let idle = fails c.has_bytes.result (HasBytes s) c.has_bytes.ensures w.if-has_bytes.false in
-          rw w.bytes-is (loaded_none file c.loop-number.bytes.items c.args.base n s c.loop-number.invariant c.segment_at-segment.ensures idle))
+          rw w.bytes-is
+          (loaded_none file c.loop-number.bytes.items c.args.base n s c.loop-number.invariant
+          c.segment_at-segment.ensures idle))
     ]
 
 pub returns : goal.returns
 returns c =
     let all : c.loop-number.number ≡ e_phnum c.args.file.now = (search rules) in
-    all_loaded c.args.file.now c.loop-number.bytes.items c.args.base c.loop-number.number c.loop-number.invariant all c.requires.whole c.requires.base
+    all_loaded c.args.file.now c.loop-number.bytes.items c.args.base c.loop-number.number c.loop-number.invariant all
+    c.requires.whole c.requires.base

@@ -8,7 +8,8 @@ returns-then-not-is_code_in_front-clause-fault c =
     let file = c.args.file.now in
     let code = c.in-Some-code_end.ensures.some in (
       before_last file
-          (holds c.is_for_this_machine.result (IsForThisMachine file) c.is_for_this_machine.ensures c.if-not-is_for_this_machine.false)
+          (holds c.is_for_this_machine.result (IsForThisMachine file) c.is_for_this_machine.ensures
+          c.if-not-is_for_this_machine.false)
           c.in-Some.ensures.some.0
           (holds c.is_executable.result (IsExecutable file) c.is_executable.ensures c.if-not-is_executable.false)
           (code.some.0, code.some.1, code.some.2)
@@ -22,7 +23,8 @@ returns-clause-passed c =
     let file = c.args.file.now in
     let code = c.in-Some-code_end.ensures.some in
     before_memory file
-    (holds c.is_for_this_machine.result (IsForThisMachine file) c.is_for_this_machine.ensures c.if-not-is_for_this_machine.false)
+    (holds c.is_for_this_machine.result (IsForThisMachine file) c.is_for_this_machine.ensures
+    c.if-not-is_for_this_machine.false)
     c.in-Some.ensures.some.0
     (holds c.is_executable.result (IsExecutable file) c.is_executable.ensures c.if-not-is_executable.false)
     (code.some.0, code.some.1, code.some.2)

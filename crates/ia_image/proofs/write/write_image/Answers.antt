@@ -6,7 +6,8 @@ use Rattle.ia_image.proofs.write.write_image.Goals as goal
 
 pub returns-in_err-make_room-clause-text : goal.returns-in_err-make_room-clause-text
 returns-in_err-make_room-clause-text g c =
-    writes_err (image_text c.args.bytes.now c.args.base c.args.code_len) c.from_residual.result c.from_residual.ensures.0 (making_stopped c.rows.invariant.1 c.in_err-make_room.ensures.put)
+    writes_err (image_text c.args.bytes.now c.args.base c.args.code_len) c.from_residual.result
+    c.from_residual.ensures.0 (making_stopped c.rows.invariant.1 c.in_err-make_room.ensures.put)
 
 pub rows-preserved : goal.rows-preserved
 rows-preserved g c =
@@ -18,7 +19,8 @@ rows-preserved g c =
 pub returns-in_err-put-clause-text : goal.returns-in_err-put-clause-text
 returns-in_err-put-clause-text g c =
     let stopped = rw c.as_slice.ensures.value at c.in_err-put.ensures in
-    writes_err (image_text c.args.bytes.now c.args.base c.args.code_len) c.from_residual-in_err-put.result c.from_residual-in_err-put.ensures.0 (making_stopped c.rows.invariant.1 stopped)
+    writes_err (image_text c.args.bytes.now c.args.base c.args.code_len) c.from_residual-in_err-put.result
+    c.from_residual-in_err-put.ensures.0 (making_stopped c.rows.invariant.1 stopped)
 
 pub returns-clause-text : goal.returns-clause-text
 returns-clause-text g c =

@@ -4,4 +4,5 @@ use Rattle.ia_layout.specs.Placement.{base_of}
 use Rattle.ia_layout.proofs.base.first_org.Given as goal
 
 abbrev pub invariant-loop-entry : goal.invariant-loop-entry
-invariant-loop-entry l = (more : List EntryOf) → base_of (drop l.entry-index l.entries ++ more) ≡ base_of (l.entries ++ more)
+invariant-loop-entry l =
+    (more : List EntryOf) → base_of (drop l.entry-index l.entries ++ more) ≡ base_of (l.entries ++ more)

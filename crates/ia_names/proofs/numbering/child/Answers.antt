@@ -7,7 +7,8 @@ use Rattle.ia_names.proofs.numbering.child.Goals as goal
 pub returns-clause-tree : goal.returns-clause-tree
 returns-clause-tree c =
     let n : Node = record { parent = c.args.parent; part = c.args.part } in
-    tree_inserted c.args.nodes.now.keys c.insert_full.new.self.keys n c.in_ok-index.ensures.keys c.requires.tree c.requires.known c.requires.part
+    tree_inserted c.args.nodes.now.keys c.insert_full.new.self.keys n c.in_ok-index.ensures.keys c.requires.tree
+    c.requires.known c.requires.part
 
 pub returns-clause-known : goal.returns-clause-known
 returns-clause-known c =
@@ -22,5 +23,6 @@ returns-clause-named c =
     let new = c.insert_full.new.self.keys in
     let keys = c.in_ok-index.ensures.keys in
     let stored = c.in_ok-index.ensures.stored in
-    named_inserted old new n stored.0 c.in_ok-index.index (tree_inserted old new n keys c.requires.tree c.requires.known c.requires.part) (kept_inserted old new n keys)
+    named_inserted old new n stored.0 c.in_ok-index.index
+    (tree_inserted old new n keys c.requires.tree c.requires.known c.requires.part) (kept_inserted old new n keys)
     c.requires.known c.in_ok-index.ensures.within stored.1 stored.2

@@ -9,7 +9,8 @@ invariant-loop-place l = record {
   tree : ∥ IsTree l.nodes.keys ∥₁;
   kept : AreKept l.initial.nodes.keys l.nodes.keys;
   known : l.number < length (wholes l.nodes.keys);
-  named : get_or (wholes l.nodes.keys) l.number [] ≡ get_or (wholes l.initial.nodes.keys) l.from [] ++ take l.place l.name;
+  named :
+      get_or (wholes l.nodes.keys) l.number [] ≡ get_or (wholes l.initial.nodes.keys) l.from [] ++ take l.place l.name;
   follows : may_follow (get_or (wholes l.nodes.keys) l.number []) (drop l.place l.name) ≡ true;
 }
 

@@ -14,10 +14,15 @@ loop-term-preserved c =
     let scope = c.args.names.now.scope.text.now in
     record {
       scope = c.term_in.ensures.scope ∙ c.loop-term.invariant.scope;
-      grows = grows_more c.args.names.now c.loop-term.names c.term_in.new.names c.loop-term.invariant.grows c.term_in.ensures.grows;
+      grows = grows_more c.args.names.now c.loop-term.names c.term_in.new.names c.loop-term.invariant.grows
+          c.term_in.ensures.grows;
       terms = λ naming h.
-          step naming scope c.loop-term.terms.items c.in_ok-scoped.scoped c.push.new.self.items xs c.loop-term.term-index d (map (scoped_term scope) xs) c.loop-term-test.true
-          (c.loop-term.invariant.terms naming (naming_less naming c.loop-term.names c.term_in.new.names c.term_in.ensures.grows h))
+          step naming scope c.loop-term.terms.items c.in_ok-scoped.scoped c.push.new.self.items xs
+          c.loop-term.term-index d (map (scoped_term scope) xs) c.loop-term-test.true
+          (c.loop-term.invariant.terms naming
+          (naming_less naming c.loop-term.names c.term_in.new.names c.term_in.ensures.grows h))
           c.in_ok-push.ensures.items
-          (c.in_ok-scoped.ensures.term naming h ∙ ap (λ (s : Scope). scoped_term s.text.now (get_or xs c.loop-term.term-index d)) c.loop-term.invariant.scope);
+          (c.in_ok-scoped.ensures.term naming h
+          ∙ ap (λ (s : Scope). scoped_term s.text.now (get_or xs c.loop-term.term-index d))
+          c.loop-term.invariant.scope);
     }

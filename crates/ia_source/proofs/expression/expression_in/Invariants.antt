@@ -9,6 +9,7 @@ invariant-loop-term l = record {
   scope : l.names.scope ≡ l.initial.names.scope;
   grows : Grows l.initial.names l.names;
   terms : (naming : Naming) → IsNaming naming l.names
-      → map (scoped_term_content naming) l.terms.items ++ map (scoped_term l.initial.names.scope.text.now) (drop l.term-index l.source_terms)
+      → map (scoped_term_content naming) l.terms.items
+      ++ map (scoped_term l.initial.names.scope.text.now) (drop l.term-index l.source_terms)
       ≡ map (scoped_term l.initial.names.scope.text.now) l.source_terms;
 }

@@ -13,12 +13,18 @@ pub returns-in-Some-2-clause-item : goal.returns-in-Some-2-clause-item
 returns-in-Some-2-clause-item c r h =
     let ts = map lexeme_of c.args.tokens.now in
     let scope = c.args.names.now.scope.text.now in
-    ap (option_map Byte) (sym (ap (option_map (expression_content r.naming)) c.in-Some-2.is) ∙ c.in_ok-expression.ensures.expression r.naming h)
-    ∙ sym (ap (λ t. text_or t (option_map Byte (expression_in scope ts))) (no_text c.only_text.result (only_text ts) c.only_text.ensures c.in_default.is))
+    ap (option_map Byte)
+    (sym (ap (option_map (expression_content r.naming)) c.in-Some-2.is)
+    ∙ c.in_ok-expression.ensures.expression r.naming h)
+    ∙ sym (ap (λ t. text_or t (option_map Byte (expression_in scope ts)))
+    (no_text c.only_text.result (only_text ts) c.only_text.ensures c.in_default.is))
 
 pub returns-in-None-clause-item : goal.returns-in-None-clause-item
 returns-in-None-clause-item c r h =
     let ts = map lexeme_of c.args.tokens.now in
     let scope = c.args.names.now.scope.text.now in
-    ap (option_map Byte) (sym (ap (option_map (expression_content r.naming)) c.in-None.is) ∙ c.in_ok-expression.ensures.expression r.naming h)
-    ∙ sym (ap (λ t. text_or t (option_map Byte (expression_in scope ts))) (no_text c.only_text.result (only_text ts) c.only_text.ensures c.in_default.is))
+    ap (option_map Byte)
+    (sym (ap (option_map (expression_content r.naming)) c.in-None.is)
+    ∙ c.in_ok-expression.ensures.expression r.naming h)
+    ∙ sym (ap (λ t. text_or t (option_map Byte (expression_in scope ts)))
+    (no_text c.only_text.result (only_text ts) c.only_text.ensures c.in_default.is))

@@ -8,12 +8,16 @@ use Rattle.ia_source.proofs.statement.read_value.Goals as goal
 
 pub returns-in-Some-clause-item : goal.returns-in-Some-clause-item
 returns-in-Some-clause-item c r h =
-    ap (option_map Long) (sym (ap (option_map (expression_content r.naming)) c.in-Some.is) ∙ c.in_ok-expression.ensures.expression r.naming h)
+    ap (option_map Long)
+    (sym (ap (option_map (expression_content r.naming)) c.in-Some.is)
+    ∙ c.in_ok-expression.ensures.expression r.naming h)
     ∙ sym (ap (λ l. value_item l c.args.names.now.scope.text.now (map lexeme_of c.args.tokens.now)) c.if-long.true)
 
 pub returns-in-None-clause-item : goal.returns-in-None-clause-item
 returns-in-None-clause-item c r h =
-    ap (option_map Long) (sym (ap (option_map (expression_content r.naming)) c.in-None.is) ∙ c.in_ok-expression.ensures.expression r.naming h)
+    ap (option_map Long)
+    (sym (ap (option_map (expression_content r.naming)) c.in-None.is)
+    ∙ c.in_ok-expression.ensures.expression r.naming h)
     ∙ sym (ap (λ l. value_item l c.args.names.now.scope.text.now (map lexeme_of c.args.tokens.now)) c.if-long.true)
 
 pub returns-else-long-clause-item : goal.returns-else-long-clause-item

@@ -1,4 +1,5 @@
-use Rattle.std.proofs.Common.{◌≡◌, ℕ, ◌-◌, ◌<◌, ◌++◌, List, [], ◌∷◌, Option, Some, None, length, map, ap, sym, ◌∙◌, arith}
+use Rattle.std.proofs.Common.{◌≡◌, ℕ, ◌-◌, ◌<◌, ◌++◌, List, [], ◌∷◌, Option, Some, None, length, map, ap, sym, ◌∙◌}
+use Rattle.std.proofs.Common.{arith}
 use Rattle.std.proofs.lemmas.List.{map-append}
 use Rattle.std.proofs.lemmas.Grind.{common_steps}
 use Rattle.ia_lex.specs.Tokens.{lexeme_of}
@@ -13,10 +14,17 @@ behind_sign-returns-in-Some-atom t c =
     let lt : length items < 16 = grind (arith, common_steps) in
     let p : TermContent = record { negative = c.args.negative; atom = atom_content c.in-Some-atom.atom } in
     let pushed : map term_content c.push.new.self.items ≡ map term_content items ++ p ∷ []
-    = ap (map term_content) c.push.ensures.items ∙ map-append term_content items ((record { negative = c.args.negative; atom = c.in-Some-atom.atom }) ∷ []) in
-    let after : List TermContent → ℕ → Option (List TermContent) = λ front n. whole (with_terms front (terms_at (16 - n) None (map lexeme_of c.in-Some.rest.now))) in
+    =
+    ap (map term_content) c.push.ensures.items
+    ∙ map-append term_content items ((record { negative = c.args.negative; atom = c.in-Some-atom.atom }) ∷ []) in
+    let after : List TermContent → ℕ → Option (List TermContent) =
+    λ front n. whole (with_terms front (terms_at (16 - n) None (map lexeme_of c.in-Some.rest.now))) in
     c.behind_term.ensures
     ∙ ap (λ f. after f (length c.push.new.self.items)) pushed
     ∙ ap (after (map term_content items ++ p ∷ [])) c.push.ensures.len
-    ∙ ap whole (sym (terms_one (map term_content items) (length items) c.args.negative (atom_content c.in-Some-atom.atom) (lexeme_of c.in-Some.token.now) (map lexeme_of c.in-Some.rest.now) lt c.in-Some-atom.ensures))
-    ∙ ap (λ (l : List _). whole (with_terms (map term_content items) (terms_at (16 - length items) (Some c.args.negative) (map lexeme_of l)))) (sym c.in-Some.ensures.cases.0)
+    ∙ ap whole
+    (sym (terms_one (map term_content items) (length items) c.args.negative (atom_content c.in-Some-atom.atom)
+    (lexeme_of c.in-Some.token.now) (map lexeme_of c.in-Some.rest.now) lt c.in-Some-atom.ensures))
+    ∙ ap (λ (l : List _).
+    whole (with_terms (map term_content items) (terms_at (16 - length items) (Some c.args.negative) (map lexeme_of l))))
+    (sym c.in-Some.ensures.cases.0)

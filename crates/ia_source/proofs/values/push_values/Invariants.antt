@@ -12,8 +12,10 @@ invariant-loop-place l = record {
   scope : l.names.scope ≡ l.initial.names.scope;
   grows : Grows l.initial.names l.names;
   read : (r : Reading) → IsNaming r.naming l.names
-      → values_onto l.long (state_content l.initial.names.scope.text.now l.state) (values_content r l.entries.list.items l.run.items) (pieces_from l.place l.tokens)
-      ≡ values_onto l.long (state_content l.initial.names.scope.text.now l.state) (no_value (map (entry_content r) l.initial.entries.list.items)) (between_commas (map lexeme_of l.tokens));
+      → values_onto l.long (state_content l.initial.names.scope.text.now l.state)
+      (values_content r l.entries.list.items l.run.items) (pieces_from l.place l.tokens)
+      ≡ values_onto l.long (state_content l.initial.names.scope.text.now l.state)
+      (no_value (map (entry_content r) l.initial.entries.list.items)) (between_commas (map lexeme_of l.tokens));
 }
 
 abbrev pub decreases-loop-place : goal.decreases-loop-place

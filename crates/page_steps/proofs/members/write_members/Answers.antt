@@ -1,5 +1,6 @@
 use Rattle.std.proofs.Common.{false, ℕ, List, [], ◌∷◌, codes}
-use Rattle.page_steps.specs.Members.{access_member, event_member, hits_member, load_made, named, state_member, store_name}
+use Rattle.page_steps.specs.Members.{access_member, event_member, hits_member, load_made, named, state_member}
+use Rattle.page_steps.specs.Members.{store_name}
 use Rattle.page_steps.specs.Numbers.{numbers_text}
 use Rattle.page_steps.specs.Stored.{stored_text}
 use Rattle.page_steps.proofs.Saying.{member_then}
@@ -24,9 +25,13 @@ returns g c =
     let second : List (List ℕ) = writes ∷ third in
     let first : List (List ℕ) = reads ∷ second in
     member_then _ false _ state first r c.in_ok-some.ensures.some c.in_ok-some.ensures.text
-    (member_then _ _ _ reads second r (rw c.as_slice.ensures.value at c.in_ok-some-2.ensures.some) (rw c.as_slice.ensures.value at c.in_ok-some-2.ensures.text)
-    (member_then _ _ _ writes third r (rw c.as_slice-2.ensures.value at c.in_ok-some-3.ensures.some) (rw c.as_slice-2.ensures.value at c.in_ok-some-3.ensures.text)
-    (member_then _ _ _ load fourth r (rw c.load_made.ensures at c.in_ok-some-4.ensures.some) (rw c.load_made.ensures at c.in_ok-some-4.ensures.text)
-    (member_then _ _ _ stored fifth r (rw c.as_slice-3.ensures.value at c.in_ok-some-5.ensures.some) (rw c.as_slice-3.ensures.value at c.in_ok-some-5.ensures.text)
+    (member_then _ _ _ reads second r (rw c.as_slice.ensures.value at c.in_ok-some-2.ensures.some)
+    (rw c.as_slice.ensures.value at c.in_ok-some-2.ensures.text)
+    (member_then _ _ _ writes third r (rw c.as_slice-2.ensures.value at c.in_ok-some-3.ensures.some)
+    (rw c.as_slice-2.ensures.value at c.in_ok-some-3.ensures.text)
+    (member_then _ _ _ load fourth r (rw c.load_made.ensures at c.in_ok-some-4.ensures.some)
+    (rw c.load_made.ensures at c.in_ok-some-4.ensures.text)
+    (member_then _ _ _ stored fifth r (rw c.as_slice-3.ensures.value at c.in_ok-some-5.ensures.some)
+    (rw c.as_slice-3.ensures.value at c.in_ok-some-5.ensures.text)
     (member_then _ _ _ hits sixth r c.in_ok-some-6.ensures.some c.in_ok-some-6.ensures.text
     (member_then _ _ _ event seventh r c.in_ok-some-7.ensures.some c.in_ok-some-7.ensures.text c.put_end.ensures))))))

@@ -10,6 +10,8 @@ pub returns : goal.returns
 returns g c =
     let first = c.in-Some.first.now in
     let rest = c.in-Some.rest.now in
-    let Says : List ℕ → Type 0 = λ text. OnOk c.put_more.result (Wrote (g.O.Out.device c.args.out.now) (g.O.Out.device c.put_more.new.out) text) in
+    let Says : List ℕ → Type 0 =
+    λ text. OnOk c.put_more.result (Wrote (g.O.Out.device c.args.out.now) (g.O.Out.device c.put_more.new.out) text) in
     subst Says (sym (ap numbers_inner c.in-Some.ensures.cases.0 ∙ joined_first decimal 44 first rest))
-    (then_on_ok _ (flat_map behind_comma rest) c.put_more.result (rw c.from.ensures at c.in_ok-write_number.ensures) c.put_more.ensures)
+    (then_on_ok _ (flat_map behind_comma rest) c.put_more.result (rw c.from.ensures at c.in_ok-write_number.ensures)
+    c.put_more.ensures)

@@ -8,4 +8,5 @@ returns-clause-text g c =
     let listed = rw c.as_slice.ensures.value at c.in_ok-write_numbers.ensures in
     let registers = rw c.changed_registers.ensures at listed in
     wrote_then c.in_ok-put.ensures (wrote_then number (wrote_then c.in_ok-put-2.ensures (wrote_then letter
-    (wrote_then c.in_ok-put-4.ensures (wrote_then registers (wrote_then c.in_ok-write_members.ensures c.in_ok-put-5.ensures))))))
+    (wrote_then c.in_ok-put-4.ensures
+    (wrote_then registers (wrote_then c.in_ok-write_members.ensures c.in_ok-put-5.ensures))))))

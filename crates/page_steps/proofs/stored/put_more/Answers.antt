@@ -16,7 +16,8 @@ loop-byte-preserved g c =
     let none : StoredByte = record { address = 0; byte = 0 } in
     let byte : StoredByte = slice_index_or bytes i none in
     let more : take (i + 1) bytes ≡ take i bytes ++ byte ∷ [] = take_more bytes i none c.loop-byte-test.true in
-    let text : more_text first (take i bytes) ++ joint_text c.loop-byte.last byte ≡ more_text first (take (i + 1) bytes) =
+    let text :
+    more_text first (take i bytes) ++ joint_text c.loop-byte.last byte ≡ more_text first (take (i + 1) bytes) =
     ap (λ l. more_text first (take i bytes) ++ joint_text l byte) c.loop-byte.invariant.last
     ∙ sym (more_and first (take i bytes) byte) ∙ ap (more_text first) (sym more) in
     record {

@@ -7,6 +7,7 @@ use Rattle.page_steps.proofs.stored.put_more.Given as goal
 -- the bytes so far were written, of which the last is known
 abbrev pub invariant-loop-byte : goal.invariant-loop-byte
 invariant-loop-byte g l = record {
-  wrote : Wrote (g.O.Out.device l.initial.out) (g.O.Out.device l.out) (more_text l.initial.last (take l.byte-index l.bytes));
+  wrote : Wrote (g.O.Out.device l.initial.out) (g.O.Out.device l.out)
+      (more_text l.initial.last (take l.byte-index l.bytes));
   last : l.last ≡ last_of l.initial.last (take l.byte-index l.bytes);
 }

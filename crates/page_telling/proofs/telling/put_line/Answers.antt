@@ -17,7 +17,9 @@ returns-clause-text g c =
 pub returns-clause-plain : goal.returns-clause-plain
 returns-clause-plain g c =
     let text : List ℕ = step_text c.args.delta.now c.args.before in
-    let front : ArePlain (line_front c.args.is_first) = subst ArePlain c.before_line.ensures c.in_ok-put_plain.ensures.plain in
+    let front : ArePlain (line_front c.args.is_first) =
+    subst ArePlain c.before_line.ensures c.in_ok-put_plain.ensures.plain in
     let line : c.as_slice.result.now ≡ text = c.as_slice.ensures.value ∙ c.in_ok-line.ensures in
-    on_ok_weaker c.put_plain-2.result (λ (h : ArePlain c.as_slice.result.now). both_plain (line_front c.args.is_first) text front (subst ArePlain line h))
+    on_ok_weaker c.put_plain-2.result
+    (λ (h : ArePlain c.as_slice.result.now). both_plain (line_front c.args.is_first) text front (subst ArePlain line h))
     c.put_plain-2.ensures.plain

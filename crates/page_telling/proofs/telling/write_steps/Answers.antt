@@ -31,16 +31,21 @@ returns-clause-written g c =
     let walked = c.in_ok-walk.ensures.walked in
     let known : IsKnown opened.machine opened.behind.kept.bytes.items =
     subst (λ (kept : List KeptByte). IsKnown opened.machine kept) (sym (c.open_first.ensures.kept ∙ c.new.ensures))
-    (subst (λ (m : Machine). IsKnown m []) (sym c.open_first.ensures.machine) (known_first program limits machine c.in_ok-machine.ensures.made)) in
+    (subst (λ (m : Machine). IsKnown m []) (sym c.open_first.ensures.machine)
+    (known_first program limits machine c.in_ok-machine.ensures.made)) in
     let opens : IsRunOf program limits [] opened.machine =
-    subst (λ (m : Machine). IsRunOf program limits [] m) (sym c.open_first.ensures.machine) c.in_ok-machine.ensures.made in
+    subst (λ (m : Machine). IsRunOf program limits [] m) (sym c.open_first.ensures.machine)
+    c.in_ok-machine.ensures.made in
     let all : HasTold (spot opened) walked.0 (spot ended) =
-    has_told (spot opened) walked.0 (spot ended) known (all_tell spot (λ a steps b h. h) walked.0 opened ended walked.2) in
+    has_told (spot opened) walked.0 (spot ended) known
+    (all_tell spot (λ a steps b h. h) walked.0 opened ended walked.2) in
     IfOk-weaker c.ended.result
     (λ (last : g.row.O.Denot). Wrote (g.O.Out.device ended.out) (g.O.Out.device last) (codes "]"))
     (λ (last : g.row.O.Denot). AreLinesWritten stretch (g.O.Out.device c.args.out) (g.O.Out.device last))
-    (λ last end. lines_written stretch walked.0 (spot opened) (spot ended) (g.O.Out.device c.args.out) (g.O.Out.device last) walked.1 opens
-    c.open_first.ensures.made c.open_first.ensures.window c.in_ok-open_first.ensures.text all c.in_ok-check_made.ensures.all c.in_ok-check_made.ensures.reached end)
+    (λ last end. lines_written stretch walked.0 (spot opened) (spot ended) (g.O.Out.device c.args.out)
+    (g.O.Out.device last) walked.1 opens
+    c.open_first.ensures.made c.open_first.ensures.window c.in_ok-open_first.ensures.text all
+    c.in_ok-check_made.ensures.all c.in_ok-check_made.ensures.reached end)
     c.ended.ensures.text
 
 pub returns-in_err-walk-clause-refused : goal.returns-in_err-walk-clause-refused

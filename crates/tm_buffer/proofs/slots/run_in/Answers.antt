@@ -1,4 +1,5 @@
-use Rattle.std.proofs.Common.{◌≡◌, ◌<◌, ◌+◌, ◌*◌, ◌^◌, ◌/◌, ℕ, List, [], ◌∷◌, cond, get_or, sym, ap, ◌∙◌, ⊎_elim, arith, Some, None}
+use Rattle.std.proofs.Common.{◌≡◌, ◌<◌, ◌+◌, ◌*◌, ◌^◌, ◌/◌, ℕ, List, [], ◌∷◌, cond, get_or, sym, ap, ◌∙◌, ⊎_elim, arith}
+use Rattle.std.proofs.Common.{Some, None}
 use Rattle.std.proofs.lemmas.Bool.{cases_eq, eq-eqb}
 use Rattle.std.specs.Int.{bit_at}
 use Rattle.std.specs.Int.RustNames.{bit_and}
@@ -7,14 +8,17 @@ use Rattle.tm_buffer.proofs.Bits.{four_set}
 use Rattle.tm_buffer.proofs.slots.run_in.Goals as goal
 
 -- four bytes of a list, one after the other
-four_bytes : (xs : List ℕ) (s k : ℕ) → k < 4 → get_or xs (s + k) 0 ≡ get_or (get_or xs s 0 ∷ get_or xs (s + 1) 0 ∷ get_or xs (s + 2) 0 ∷ get_or xs (s + 3) 0 ∷ []) k 0
+four_bytes : (xs : List ℕ) (s k : ℕ) → k < 4
+    → get_or xs (s + k) 0
+    ≡ get_or (get_or xs s 0 ∷ get_or xs (s + 1) 0 ∷ get_or xs (s + 2) 0 ∷ get_or xs (s + 3) 0 ∷ []) k 0
 four_bytes xs s k small = ⊎_elim
     (λ (e : k ≡ 0). let n : s + k ≡ s = omega arith in ap (λ i. get_or xs i 0) n ∙ sym (ap (λ i. get_or ys i 0) e))
     (λ (n0 : k ≡ 0 → ⊥). ⊎_elim
     (λ (e : k ≡ 1). ap (λ i. get_or xs (s + i) 0) e ∙ sym (ap (λ i. get_or ys i 0) e))
     (λ (n1 : k ≡ 1 → ⊥). ⊎_elim
     (λ (e : k ≡ 2). ap (λ i. get_or xs (s + i) 0) e ∙ sym (ap (λ i. get_or ys i 0) e))
-    (λ (n2 : k ≡ 2 → ⊥). let e : k ≡ 3 = omega arith in ap (λ i. get_or xs (s + i) 0) e ∙ sym (ap (λ i. get_or ys i 0) e))
+    (λ (n2 : k ≡ 2 → ⊥). let e : k ≡ 3 = omega arith in
+    ap (λ i. get_or xs (s + i) 0) e ∙ sym (ap (λ i. get_or ys i 0) e))
     (cases_eq k 2))
     (cases_eq k 1))
     (cases_eq k 0)
@@ -26,7 +30,8 @@ run_at : (masks bytes : List ℕ) (place offset k : ℕ) → bit_and (get_or mas
     → slot_byte masks bytes (offset + k) place ≡ Some (get_or bytes (place * 64 + offset + k) 0)
 run_at masks bytes place offset k all small =
     let at : place * 64 + (offset + k) ≡ place * 64 + offset + k = omega arith in
-    ap (λ t. cond t (Some (get_or bytes (place * 64 + (offset + k)) 0)) None) (eq-eqb (bit_at (get_or masks place 0) (offset + k)) 1 (four_set (get_or masks place 0) offset all k small))
+    ap (λ t. cond t (Some (get_or bytes (place * 64 + (offset + k)) 0)) None)
+    (eq-eqb (bit_at (get_or masks place 0) (offset + k)) 1 (four_set (get_or masks place 0) offset all k small))
     ∙ ap (λ i. Some (get_or bytes i 0)) at
 
 pub returns : goal.returns

@@ -22,5 +22,7 @@ loop-place-init g c = record {
 pub returns-clause-bytes : goal.returns-clause-bytes
 returns-clause-bytes g c =
     let all : c.loop-place.buffer.order ≡ c.args.twin.now.order =
-    c.loop-place.invariant.order ∙ take_all c.loop-place.place c.args.twin.now.order (omega (arith, c.loop-place.invariant.end, c.loop-place-test.false)) in
+    c.loop-place.invariant.order
+    ∙ take_all c.loop-place.place c.args.twin.now.order
+    (omega (arith, c.loop-place.invariant.end, c.loop-place-test.false)) in
     all_taken c.loop-place.buffer c.args.twin.now all c.loop-place.invariant.part c.lines-place-end.ensures.nowhere_else

@@ -15,4 +15,6 @@ copy_next-requires-clause-slot g c =
     let at : b.slots c.args.core l ≡ Some c.in-Some.slot =
     ap (b.slots c.args.core) (sym c.line_at.ensures) ∙ sym c.slot.ensures.value ∙ c.in-Some.is in
     subst (λ n. IsSlotOf c.args.buffer.now (get_or c.args.twin.now.order n 0) (Some c.in-Some.slot)) (sym long)
-    (subst (IsSlotOf c.args.buffer.now l) at (written_slot b c.args.core c.requires.core c.slot.ensures.all c.args.buffer.now c.requires.room c.requires.slots l c.requires.line.1))
+    (subst (IsSlotOf c.args.buffer.now l) at
+    (written_slot b c.args.core c.requires.core c.slot.ensures.all c.args.buffer.now c.requires.room c.requires.slots l
+    c.requires.line.1))

@@ -10,6 +10,8 @@ returns-clause-here c = λ address is.
     let inv = c.loop-at.invariant in
     elim (cases_lt address (length opening)) [
       | inl below ↦ inv.done address (let start = is in omega arith)
-          (let high = c.end_of-end.ensures.all address is (let same = c.requires in omega arith) in let over = c.loop-at-test.false in omega arith)
-      | inr above ↦ get_or_past memory address 0 (let count = inv.count in omega arith) ∙ sym (get_or_past opening address 0 above)
+          (let high = c.end_of-end.ensures.all address is (let same = c.requires in omega arith) in
+          let over = c.loop-at-test.false in omega arith)
+      | inr above ↦ get_or_past memory address 0 (let count = inv.count in omega arith)
+          ∙ sym (get_or_past opening address 0 above)
     ]

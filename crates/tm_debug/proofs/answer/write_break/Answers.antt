@@ -10,10 +10,13 @@ pub returns-in_err-put : goal.returns-in_err-put
 returns-in_err-put g c =
     let front : c.as_slice.result.now ≡ break_front c.args.core c.args.address = search rules in
     writes_stopped (place_text c.args.labels.now c.args.address ++ line_end) c.from_residual.result (search rules)
-    (subst (λ (t : List ℕ). Stopped (g.O.Out.device c.args.out.now) (g.O.Out.device c.put.new.self) t) front c.in_err-put.ensures)
+    (subst (λ (t : List ℕ). Stopped (g.O.Out.device c.args.out.now) (g.O.Out.device c.put.new.self) t) front
+    c.in_err-put.ensures)
 
 pub returns : goal.returns
 returns g c =
     let front : c.as_slice.result.now ≡ break_front c.args.core c.args.address = search rules in
-    writes_then (g.O.Out.device c.end_line.new.out) (place_text c.args.labels.now c.args.address ++ line_end) c.end_line.result
-    (subst (λ (t : List ℕ). Wrote (g.O.Out.device c.args.out.now) (g.O.Out.device c.put.new.self) t) front c.in_ok-put.ensures) c.end_line.ensures
+    writes_then (g.O.Out.device c.end_line.new.out) (place_text c.args.labels.now c.args.address ++ line_end)
+    c.end_line.result
+    (subst (λ (t : List ℕ). Wrote (g.O.Out.device c.args.out.now) (g.O.Out.device c.put.new.self) t) front
+    c.in_ok-put.ensures) c.end_line.ensures

@@ -5,4 +5,5 @@ use Rattle.tm_debug.proofs.run.run_steps.Given as goal
 
 -- so many steps were made, and their lines written
 abbrev pub invariant-steps : goal.invariant-steps
-invariant-steps g l = (text : List ℕ) × IsRunOf l.initial.way l.done (value_of l.initial.state) text (value_of l.state) × Wrote (g.O.Out.device l.initial.out) (g.O.Out.device l.out) text
+invariant-steps g l = (text : List ℕ) × IsRunOf l.initial.way l.done (value_of l.initial.state) text (value_of l.state)
+    × Wrote (g.O.Out.device l.initial.out) (g.O.Out.device l.out) text

@@ -8,7 +8,11 @@ use Rattle.tm_debug.proofs.session.reply.Goals as goal
 
 pub returns-in-Ok-clause-answer : goal.returns-in-Ok-clause-answer
 returns-in-Ok-clause-answer g c =
-    subst (λ (r : Result (Unit {0}) Interruption). Ends (Replies c.args.request (value_of c.args.state.now)) (RepliesBroken c.args.request (value_of c.args.state.now)) (g.O.Out.device c.args.out.now)
-    (g.O.Out.device c.prompt.new.out) (value_of c.args.state.now) (value_of c.respond.new.state) r) (sym c.answer_result.ensures.same)
-    (prompted (g.O.Out.device c.prompt.new.out) c.args.state.now.manner (Responds c.args.request (value_of c.args.state.now)) (RespondsBroken c.args.request (value_of c.args.state.now)) (value_of c.args.state.now)
+    subst (λ (r : Result (Unit {0}) Interruption). Ends (Replies c.args.request (value_of c.args.state.now))
+    (RepliesBroken c.args.request (value_of c.args.state.now)) (g.O.Out.device c.args.out.now)
+    (g.O.Out.device c.prompt.new.out) (value_of c.args.state.now) (value_of c.respond.new.state) r)
+    (sym c.answer_result.ensures.same)
+    (prompted (g.O.Out.device c.prompt.new.out) c.args.state.now.manner
+    (Responds c.args.request (value_of c.args.state.now)) (RespondsBroken c.args.request (value_of c.args.state.now))
+    (value_of c.args.state.now)
     (value_of c.respond.new.state) c.prompt.result c.in-Ok.ensures.answer c.prompt.ensures)

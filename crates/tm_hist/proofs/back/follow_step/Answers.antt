@@ -12,8 +12,10 @@ pub returns-in-Ok-clause-ok : goal.returns-in-Ok-clause-ok
 returns-in-Ok-clause-ok c =
     let at : slice_get (picks_of c.args.board.now.history) c.args.made ≡ Some c.in-Some.pick = search rules in
     let told = told_at c.args.board.now.history c.args.made c.in-Some.pick at in
-    first_more c.args.board.now c.args.first.now c.step_as_told.new.board c.args.made c.in-Some.pick.core told.outcome c.in-Ok._outcome told.at c.is_run.ensures c.requires.so_far c.step_as_told.ensures.same c.in-Ok.ensures.ok
-    (subst (λ (e : Option Event). IsOwedNext e c.args.first.now c.in-Some.pick.core c.in-Ok._outcome) (sym told.event) c.in-Ok.ensures.owed)
+    first_more c.args.board.now c.args.first.now c.step_as_told.new.board c.args.made c.in-Some.pick.core told.outcome
+    c.in-Ok._outcome told.at c.is_run.ensures c.requires.so_far c.step_as_told.ensures.same c.in-Ok.ensures.ok
+    (subst (λ (e : Option Event). IsOwedNext e c.args.first.now c.in-Some.pick.core c.in-Ok._outcome) (sym told.event)
+    c.in-Ok.ensures.owed)
 
 pub returns-in-Err-NoSuchCore-clause-err : goal.returns-in-Err-NoSuchCore-clause-err
 returns-in-Err-NoSuchCore-clause-err c =
@@ -23,5 +25,6 @@ returns-in-Err-NoSuchCore-clause-err c =
       c.args.made,
       (c.in-Some.pick.core, told.outcome),
       told.at,
-      subst (λ (p : Program). length p.entries ≤ c.in-Some.pick.core) c.requires.so_far.same.program (c.step_as_told.ensures.none.0 none),
+      subst (λ (p : Program). length p.entries ≤ c.in-Some.pick.core) c.requires.so_far.same.program
+          (c.step_as_told.ensures.none.0 none),
     )

@@ -5,4 +5,5 @@ use Rattle.tm_hist.proofs.lines.write_state.Given as goal
 
 -- the lines of the cores so far were written
 abbrev pub invariant-loop-core : goal.invariant-loop-core
-invariant-loop-core g l = Wrote (g.O.Out.device l.initial.out) (g.O.Out.device l.out) (flat_map (core_text l.machine) (range_with_len 0 l.core))
+invariant-loop-core g l = Wrote (g.O.Out.device l.initial.out) (g.O.Out.device l.out)
+    (flat_map (core_text l.machine) (range_with_len 0 l.core))

@@ -17,8 +17,10 @@ returns-then-not-step-clause-err c =
       before = (c.pairs.memory, map core_of c.pairs.cores);
       ran = c.pairs.invariant.0;
       stuck = run_at k c.args.memory.now c.pairs.memory (map core_of c.args.cores.now) (map core_of c.pairs.cores)
-          c.args.pairs.now c.pairs.index pair (slice_get-get_or c.args.pairs.now c.pairs.index (0, Plain) c.pairs-test.true) c.pairs.invariant.0
-          ∙ ap (λ (q : ℕ × Outcome). list_step k c.pairs.memory (map core_of c.pairs.cores) q.0 q.1) (sym c.new.ensures) ∙ c.if-not-step.ensures.step;
+          c.args.pairs.now c.pairs.index pair
+          (slice_get-get_or c.args.pairs.now c.pairs.index (0, Plain) c.pairs-test.true) c.pairs.invariant.0
+          ∙ ap (λ (q : ℕ × Outcome). list_step k c.pairs.memory (map core_of c.pairs.cores) q.0 q.1) (sym c.new.ensures)
+          ∙ c.if-not-step.ensures.step;
     }
 
 pub pairs-preserved : goal.pairs-preserved
@@ -26,7 +28,9 @@ pairs-preserved c =
     let k = setting_of c.args.code.now.bytes.now c.args.code.now.base c.args.size 0 0 in
     let pair = get_or c.args.pairs.now c.pairs.index (0, Plain) in (
       run_at k c.args.memory.now c.pairs.memory (map core_of c.args.cores.now) (map core_of c.pairs.cores)
-          c.args.pairs.now c.pairs.index pair (slice_get-get_or c.args.pairs.now c.pairs.index (0, Plain) c.pairs-test.true) c.pairs.invariant.0
-          ∙ ap (λ (q : ℕ × Outcome). list_step k c.pairs.memory (map core_of c.pairs.cores) q.0 q.1) (sym c.new.ensures) ∙ c.if-not-step.ensures.step,
+          c.args.pairs.now c.pairs.index pair
+          (slice_get-get_or c.args.pairs.now c.pairs.index (0, Plain) c.pairs-test.true) c.pairs.invariant.0
+          ∙ ap (λ (q : ℕ × Outcome). list_step k c.pairs.memory (map core_of c.pairs.cores) q.0 q.1) (sym c.new.ensures)
+          ∙ c.if-not-step.ensures.step,
       c.step.ensures.growth c.pairs.index c.pairs.invariant.1,
     )

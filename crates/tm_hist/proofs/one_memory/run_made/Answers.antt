@@ -16,7 +16,9 @@ returns-then-not-step-clause-err c =
       before = (c.pairs.memory, map core_of c.pairs.cores);
       ran = c.pairs.invariant.0;
       stuck = run_at k c.args.memory.now c.pairs.memory (map core_of c.args.cores.now) (map core_of c.pairs.cores)
-          (map pair_of c.args.pairs.now) c.pairs.index (pair_of pair) (kept_at c.args.pairs.now c.pairs.index pair no_pair c.pairs-test.true refl) c.pairs.invariant.0 ∙ c.if-not-step.ensures.step;
+          (map pair_of c.args.pairs.now) c.pairs.index (pair_of pair)
+          (kept_at c.args.pairs.now c.pairs.index pair no_pair c.pairs-test.true refl) c.pairs.invariant.0
+          ∙ c.if-not-step.ensures.step;
     }
 
 pub pairs-preserved : goal.pairs-preserved
@@ -24,6 +26,8 @@ pairs-preserved c =
     let k = setting_of c.args.code.now.bytes.now c.args.code.now.base c.args.size 0 0 in
     let pair = get_or c.args.pairs.now c.pairs.index no_pair in (
       run_at k c.args.memory.now c.pairs.memory (map core_of c.args.cores.now) (map core_of c.pairs.cores)
-          (map pair_of c.args.pairs.now) c.pairs.index (pair_of pair) (kept_at c.args.pairs.now c.pairs.index pair no_pair c.pairs-test.true refl) c.pairs.invariant.0 ∙ c.if-not-step.ensures.step,
+          (map pair_of c.args.pairs.now) c.pairs.index (pair_of pair)
+          (kept_at c.args.pairs.now c.pairs.index pair no_pair c.pairs-test.true refl) c.pairs.invariant.0
+          ∙ c.if-not-step.ensures.step,
       c.step.ensures.growth c.pairs.index c.pairs.invariant.1,
     )

@@ -8,5 +8,6 @@ use Rattle.tm_hist.proofs.one_memory.run_made.Given as goal
 -- the pairs before this index have run, and no core has made more steps
 abbrev pub invariant-pairs : goal.invariant-pairs
 invariant-pairs l =
-    (list_run (setting_of l.code.bytes.now l.code.base l.size 0 0) l.initial.memory (map core_of l.initial.cores) (take l.index (map pair_of l.pairs)) ≡ Some (l.memory, map core_of l.cores))
+    (list_run (setting_of l.code.bytes.now l.code.base l.size 0 0) l.initial.memory (map core_of l.initial.cores)
+    (take l.index (map pair_of l.pairs)) ≡ Some (l.memory, map core_of l.cores))
     × AllByRecursion (λ c. steps_of c ≤ l.index) l.cores

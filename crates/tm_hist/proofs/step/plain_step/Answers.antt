@@ -12,7 +12,8 @@ write-requires-clause-within c =
     let load = load_at code base c.args.size c.args.regs.now in
     let v = loaded_value load (bytes_at c.args.memory.now (loaded_addresses load)) in
     store_within c.args.size (length c.args.memory.now) c.in-Goes.store c.requires.size
-    (rule_store_within code base c.args.size c.args.regs.now v c.in-Goes.next c.in-Goes.store (sym c.outside_on.ensures ∙ c.in-Goes.is))
+    (rule_store_within code base c.args.size c.args.regs.now v c.in-Goes.next c.in-Goes.store
+    (sym c.outside_on.ensures ∙ c.in-Goes.is))
 
 pub write-requires-clause-fits : goal.write-requires-clause-fits
 write-requires-clause-fits c =
@@ -21,4 +22,5 @@ write-requires-clause-fits c =
     let load = load_at code base c.args.size c.args.regs.now in
     let v = loaded_value load (bytes_at c.args.memory.now (loaded_addresses load)) in
     store_fits c.args.size c.in-Goes.store
-    (rule_store_within code base c.args.size c.args.regs.now v c.in-Goes.next c.in-Goes.store (sym c.outside_on.ensures ∙ c.in-Goes.is))
+    (rule_store_within code base c.args.size c.args.regs.now v c.in-Goes.next c.in-Goes.store
+    (sym c.outside_on.ensures ∙ c.in-Goes.is))

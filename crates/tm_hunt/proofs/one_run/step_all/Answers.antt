@@ -32,11 +32,14 @@ returns-then-is_violated-clause-steps g c =
       last = c.next_step-pick.new.self;
       made =
           one_more before.made
-          (next_of g.S.StepSource.picks c.steps.source c.next_step-pick.new.self c.steps.board c.step_one-outcome.new.board c.machine.result.now c.steps.last
-          c.steps.going c.next_step-pick.result c.machine.ensures before.last before.left c.next_step-pick.ensures.picked step);
+          (next_of g.S.StepSource.picks c.steps.source c.next_step-pick.new.self c.steps.board
+          c.step_one-outcome.new.board c.machine.result.now c.steps.last
+          c.steps.going c.next_step-pick.result c.machine.ensures before.last before.left
+          c.next_step-pick.ensures.picked step);
       kinds =
           c.step_one-outcome.ensures.kinds (g.S.StepSource.kinds c.args.source.now)
-          (subst (λ (kinds : Kinds). IsOfKinds kinds c.next_step-pick.result.event) before.same_kinds c.next_step-pick.ensures.event) before.kinds;
+          (subst (λ (kinds : Kinds). IsOfKinds kinds c.next_step-pick.result.event) before.same_kinds
+          c.next_step-pick.ensures.event) before.kinds;
     }
 
 pub steps-preserved : goal.steps-preserved
@@ -53,10 +56,13 @@ steps-preserved g c =
       last = last_is c.next_step-pick.result c.steps.board c.step_one-outcome.new.board step;
       made =
           one_more before.made
-          (next_of g.S.StepSource.picks c.steps.source c.next_step-pick.new.self c.steps.board c.step_one-outcome.new.board c.machine.result.now c.steps.last
-          c.steps.going c.next_step-pick.result c.machine.ensures before.last before.left c.next_step-pick.ensures.picked step);
+          (next_of g.S.StepSource.picks c.steps.source c.next_step-pick.new.self c.steps.board
+          c.step_one-outcome.new.board c.machine.result.now c.steps.last
+          c.steps.going c.next_step-pick.result c.machine.ensures before.last before.left
+          c.next_step-pick.ensures.picked step);
       same_kinds = c.next_step-pick.ensures.same ∙ before.same_kinds;
       kinds =
           c.step_one-outcome.ensures.kinds (g.S.StepSource.kinds c.args.source.now)
-          (subst (λ (kinds : Kinds). IsOfKinds kinds c.next_step-pick.result.event) before.same_kinds c.next_step-pick.ensures.event) before.kinds;
+          (subst (λ (kinds : Kinds). IsOfKinds kinds c.next_step-pick.result.event) before.same_kinds
+          c.next_step-pick.ensures.event) before.kinds;
     }

@@ -7,6 +7,8 @@ make_step-outcome-requires-clause-is_core c =
 
 pub returns-clause-left : goal.returns-clause-left
 returns-clause-left c =
-    left_after c.args.board.now c.make_step-outcome.new.board c.args.going.now c.take_out.new.going c.args.pick.core c.make_step-outcome.result
-    c.is_run.ensures c.is_run-2.ensures c.make_step-outcome.ensures.same c.make_step-outcome.ensures.made c.requires.among c.requires.left
+    left_after c.args.board.now c.make_step-outcome.new.board c.args.going.now c.take_out.new.going c.args.pick.core
+    c.make_step-outcome.result
+    c.is_run.ensures c.is_run-2.ensures c.make_step-outcome.ensures.same c.make_step-outcome.ensures.made
+    c.requires.among c.requires.left
     (record { stopped = c.take_out.ensures.stopped; goes_on = c.take_out.ensures.goes_on })

@@ -22,7 +22,8 @@ runs-preserved g c =
           let ended = w.ended-is in
           let cut = w.cut-is in
           record {
-            passed = ended_more c.args.trial.now made c.args.first c.runs.ended c.runs.cut c.match-branch-3.ended c.match-branch-3.cut c.runs.run ended cut before.counted before.passed
+            passed = ended_more c.args.trial.now made c.args.first c.runs.ended c.runs.cut c.match-branch-3.ended
+                c.match-branch-3.cut c.runs.run ended cut before.counted before.passed
                 _ w.in-Ended.is c.in_ok-run_of.ensures.ok;
             counted = omega arith;
             board = c.in_ok-run_of.ensures.of_trial;
@@ -31,7 +32,8 @@ runs-preserved g c =
           let ended = w.ended-is in
           let cut = w.cut-is in
           record {
-            passed = cut_more c.args.trial.now made c.args.first c.runs.ended c.runs.cut c.match-branch-3.ended c.match-branch-3.cut c.runs.run ended cut before.counted before.passed
+            passed = cut_more c.args.trial.now made c.args.first c.runs.ended c.runs.cut c.match-branch-3.ended
+                c.match-branch-3.cut c.runs.run ended cut before.counted before.passed
                 _ w.in-Cut.is c.in_ok-run_of.ensures.ok;
             counted = omega arith;
             board = c.in_ok-run_of.ensures.of_trial;

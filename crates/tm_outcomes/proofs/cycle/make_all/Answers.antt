@@ -22,5 +22,6 @@ make-requires-clause-at c =
 pub loop-pick-preserved : goal.loop-pick-preserved
 loop-pick-preserved c =
     let added = c.in_ok-make.ensures in
-    made_then c.args.trial.now c.args.here.now c.loop-pick.here c.make.new.here c.args.noted.now c.loop-pick.noted c.make.new.noted
+    made_then c.args.trial.now c.args.here.now c.loop-pick.here c.make.new.here c.args.noted.now c.loop-pick.noted
+    c.make.new.noted
     c.loop-pick.steps.items added.0 c.make.new.steps.items added.1 c.loop-pick.invariant added.2

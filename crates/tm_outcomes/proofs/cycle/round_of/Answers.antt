@@ -26,7 +26,9 @@ returns-clause-ok c = λ schedules tree.
     let other = c.place_of.new.place in
     goes_round c.args.trial.now schedules c.args.first c.make_all.new.here other c.in_ok-steps.steps.items
     (c.in_ok-place_of.ensures.ok schedules tree)
-    (made.at (schedule_at schedules c.args.first) (c.in_ok-place_of-2.ensures.ok schedules tree)) made.are_picks made.usual
+    (made.at (schedule_at schedules c.args.first) (c.in_ok-place_of-2.ensures.ok schedules tree))
+    made.are_picks made.usual
     (c.is_alike.ensures.0 c.if-not-is_alike.false)
-    (subst (λ (steps : List Pick). IsFair other steps) c.as_slice-2.ensures.value (c.is_fair.ensures c.if-not-is_fair.false))
+    (subst (λ (steps : List Pick). IsFair other steps) c.as_slice-2.ensures.value
+    (c.is_fair.ensures c.if-not-is_fair.false))
     (λ now stands ended. false≢true (sym c.if-has_ended.false ∙ (c.has_ended.ensures now stands).1 ended))

@@ -22,10 +22,12 @@ returns c = (
   λ _. ext_get_or 0 c.args.these.now c.args.those.now (c.requires.these.count ∙ sym c.requires.those.count)
       (λ address below. elim (c.requires.these.same address) [
         | inl among ↦
-            c.loop-line.invariant among.0 address (let within = among.1 in let over = c.loop-line-test.false in omega arith) among.2
+            c.loop-line.invariant among.0 address
+            (let within = among.1 in let over = c.loop-line-test.false in omega arith) among.2
         | inr here ↦ elim (c.requires.those.same address) [
           | inl among ↦
-              c.loop-line.invariant among.0 address (let within = among.1 in let over = c.loop-line-test.false in omega arith) among.2
+              c.loop-line.invariant among.0 address
+              (let within = among.1 in let over = c.loop-line-test.false in omega arith) among.2
           | inr there ↦ here ∙ sym there
         ]
       ]),

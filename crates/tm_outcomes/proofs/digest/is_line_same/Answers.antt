@@ -13,5 +13,6 @@ returns-clause-same c = λ same address is.
           so_far.so_far same address (let start = is in omega arith)
           (let high = c.end_of-end.ensures.all address is below in let over = c.loop-at-test.false in omega arith)
       | inr above ↦
-          get_or_past these address 0 above ∙ sym (get_or_past those address 0 (let counted = so_far.counted in omega arith))
+          get_or_past these address 0 above
+          ∙ sym (get_or_past those address 0 (let counted = so_far.counted in omega arith))
     ]

@@ -17,8 +17,11 @@ pub nodes-preserved : goal.nodes-preserved
 nodes-preserved c =
     let queue = c.nodes.marks.queue.items in
     let below : c.nodes.done < length queue = omega arith in
-    passes_on c.args.links.now c.args.ends.now c.args.nodes c.nodes.marks c.pass.new.self c.nodes.done c.index-node.result.now
-    below (get_or_read queue c.nodes.done c.index-node.result.now below c.index-node.ensures 0) c.in_ok-pass.ensures c.nodes.invariant
+    passes_on c.args.links.now c.args.ends.now c.args.nodes c.nodes.marks c.pass.new.self c.nodes.done
+    c.index-node.result.now
+    below (get_or_read queue c.nodes.done c.index-node.result.now below c.index-node.ensures 0) c.in_ok-pass.ensures
+    c.nodes.invariant
 
 pub returns : goal.returns
-returns c = ends_passing c.args.links.now c.args.ends.now c.args.nodes c.nodes.marks c.nodes.done (omega arith) c.nodes.invariant
+returns c = ends_passing c.args.links.now c.args.ends.now c.args.nodes c.nodes.marks c.nodes.done (omega arith)
+    c.nodes.invariant

@@ -10,11 +10,13 @@ replay-requires-clause-within c =
     let trial = c.args.trial.now in
     let written = c.requires.written in
     subst (λ (s : List Pick). IsWithin trial c.args.written.now.lines.items s)
-    (sym (ap (steps_along c.args.nodes.now) c.as_slice.ensures.value ∙ c.in_ok-way.ensures.steps trial written.schedules written.tree))
+    (sym (ap (steps_along c.args.nodes.now) c.as_slice.ensures.value
+    ∙ c.in_ok-way.ensures.steps trial written.schedules written.tree))
     (written.within c.args.index c.requires.within)
 
 pub returns-clause-ok : goal.returns-clause-ok
 returns-clause-ok c = λ schedules tree.
     subst (λ (s : List Pick). IsAt c.args.trial.now c.replay.new.self s)
-    (ap (steps_along c.args.nodes.now) c.as_slice.ensures.value ∙ c.in_ok-way.ensures.steps c.args.trial.now schedules tree)
+    (ap (steps_along c.args.nodes.now) c.as_slice.ensures.value
+    ∙ c.in_ok-way.ensures.steps c.args.trial.now schedules tree)
     c.replay.ensures.at

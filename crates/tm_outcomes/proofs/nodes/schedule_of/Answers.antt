@@ -8,7 +8,8 @@ use Rattle.tm_outcomes.proofs.Trees.{part_is}
 use Rattle.tm_outcomes.proofs.nodes.schedule_of.Goals as goal
 
 -- what was lent comes back whole
-whole : (len : ℕ) (xs ys : List Pick) → ys ≡ reverse xs → len ≡ length xs → take len (ys ++ drop (length ys) xs) ≡ reverse xs
+whole : (len : ℕ) (xs ys : List Pick) → ys ≡ reverse xs → len ≡ length xs
+    → take len (ys ++ drop (length ys) xs) ≡ reverse xs
 whole len xs ys turned same =
     let long : length ys ≡ length xs = ap length turned ∙ length-reverse xs in
     ap (λ zs. take len (ys ++ zs)) (drop_all (length ys) xs (omega arith))
@@ -31,8 +32,10 @@ steps-preserved c =
     let steps : List Pick = node.steps.items in
     let within : at < length nodes = c.steps.invariant.within in
     let positive : 0 < at = c.steps-test.true in
-    let parent : parent_at nodes at ≡ node.parent = part_is (λ (n : Node). n.parent) 0 nodes at node within (sym c.index-nodes-at.is) in
-    let steps_are : steps_at nodes at ≡ steps = part_is (λ (n : Node). n.steps.items) [] nodes at node within (sym c.index-nodes-at.is) in
+    let parent : parent_at nodes at ≡ node.parent =
+    part_is (λ (n : Node). n.parent) 0 nodes at node within (sym c.index-nodes-at.is) in
+    let steps_are : steps_at nodes at ≡ steps =
+    part_is (λ (n : Node). n.steps.items) [] nodes at node within (sym c.index-nodes-at.is) in
     let added : c.push_reversed.new.picks.items ≡ picks ++ reverse steps =
     c.in_ok-push_reversed.ensures ∙ ap (λ (s : List Pick). picks ++ reverse s) c.as_slice.ensures.value in
     let lower = c.requires.tree.1.1.lower at positive within in
@@ -46,12 +49,15 @@ steps-preserved c =
           ∙ (ap (λ s. (before ++ s) ++ reverse picks) steps_are
           ∙ (append_assoc before steps (reverse picks)
           ∙ ap (λ r. before ++ r)
-          (sym (ap reverse added ∙ (reverse-append picks (reverse steps) ∙ ap (λ s. s ++ reverse picks) (reverse-reverse steps))))))));
+          (sym (ap reverse added
+          ∙ (reverse-append picks (reverse steps) ∙ ap (λ s. s ++ reverse picks) (reverse-reverse steps))))))));
     }
 
 pub returns : goal.returns
 returns c = λ trial schedules tree.
     let picks = c.steps.picks.items in
     let end : c.steps.at ≡ 0 = (let e = c.steps-test.false in omega arith) in
-    whole c.steps.picks.len picks c.reverse.new.self (c.reverse.ensures.after ∙ ap reverse c.as_mut_slice.ensures.value) (omega (arith, c.steps.picks.ok.0))
-    ∙ sym (c.steps.invariant.so_far trial schedules tree ∙ ap (λ s. s ++ reverse picks) (ap (schedule_at schedules) end ∙ tree.root))
+    whole c.steps.picks.len picks c.reverse.new.self (c.reverse.ensures.after ∙ ap reverse c.as_mut_slice.ensures.value)
+    (omega (arith, c.steps.picks.ok.0))
+    ∙ sym (c.steps.invariant.so_far trial schedules tree
+    ∙ ap (λ s. s ++ reverse picks) (ap (schedule_at schedules) end ∙ tree.root))

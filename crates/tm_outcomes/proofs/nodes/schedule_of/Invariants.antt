@@ -8,7 +8,8 @@ use Rattle.tm_outcomes.proofs.nodes.schedule_of.Given as goal
 abbrev pub invariant-steps : goal.invariant-steps
 invariant-steps l = record {
   within : l.at < length l.nodes;
-  so_far : (trial : Trial) (schedules : List (List Pick)) → IsTree trial l.nodes schedules → schedule_at schedules l.index ≡ schedule_at schedules l.at ++ reverse l.picks.items;
+  so_far : (trial : Trial) (schedules : List (List Pick)) → IsTree trial l.nodes schedules
+      → schedule_at schedules l.index ≡ schedule_at schedules l.at ++ reverse l.picks.items;
 }
 
 abbrev pub decreases-steps : goal.decreases-steps

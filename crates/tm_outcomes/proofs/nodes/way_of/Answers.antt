@@ -15,9 +15,12 @@ steps-init c =
     record {
       within = c.requires.within;
       so_far = λ trial schedules tree.
-          sym (ap (λ (way : List ℕ). schedule_at schedules c.args.index ++ steps_along nodes way) c.new-way.ensures.items
-          ∙ (ap (λ (s : List Pick). schedule_at schedules c.args.index ++ s) (along_none nodes) ∙ append-nil (schedule_at schedules c.args.index)));
-      on_way = subst (λ (way : List ℕ). All (IsOnWay (length nodes)) way) (sym c.new-way.ensures.items) (All-nil (IsOnWay (length nodes)));
+          sym
+          (ap (λ (way : List ℕ). schedule_at schedules c.args.index ++ steps_along nodes way) c.new-way.ensures.items
+          ∙ (ap (λ (s : List Pick). schedule_at schedules c.args.index ++ s) (along_none nodes)
+          ∙ append-nil (schedule_at schedules c.args.index)));
+      on_way = subst (λ (way : List ℕ). All (IsOnWay (length nodes)) way) (sym c.new-way.ensures.items)
+          (All-nil (IsOnWay (length nodes)));
     }
 
 pub steps-smaller : goal.steps-smaller
@@ -36,7 +39,8 @@ steps-preserved c =
     let way : List ℕ = c.steps.way.items in
     let within : at < length nodes = c.steps.invariant.within in
     let positive : 0 < at = c.steps-test.true in
-    let parent : parent_at nodes at ≡ node.parent = part_is (λ (n : Node). n.parent) 0 nodes at node within (sym c.index-nodes-at.is) in
+    let parent : parent_at nodes at ≡ node.parent =
+    part_is (λ (n : Node). n.parent) 0 nodes at node within (sym c.index-nodes-at.is) in
     let added : c.push.new.self.items ≡ way ++ at ∷ [] = c.in_ok-push.ensures.items in
     let lower = c.requires.tree.1.1.lower at positive within in
     record {

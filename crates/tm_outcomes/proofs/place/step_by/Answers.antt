@@ -9,7 +9,8 @@ use Rattle.tm_outcomes.proofs.place.step_by.Goals as goal
 pub returns-in-Some-clause-ok : goal.returns-in-Some-clause-ok
 returns-in-Some-clause-ok c =
     let machine = c.args.machine.now in
-    subst (λ (event : Option Event). IfOk c.step_under.result (λ (outcome : Outcome). (state : State) (doomed : Doomed) →
+    subst
+    (λ (event : Option Event). IfOk c.step_under.result (λ (outcome : Outcome). (state : State) (doomed : Doomed) →
     StandsFor machine state doomed →
     TakesStepUnder event machine c.step_under.new.self state doomed c.args.pick.core outcome)) (sym c.in-Some.is)
     c.step_under.ensures.ok

@@ -25,13 +25,15 @@ loop-index-init g c =
           record {
             start = c.requires.start;
             here = c.requires.here;
-            at = subst (λ (at : Option ℕ). IsAtNode c.args.trial.now c.in_ok-search.search.nodes.items c.args.bench.now.start at) (sym c.requires.at) tt;
+            at = subst (λ (at : Option ℕ). IsAtNode c.args.trial.now c.in_ok-search.search.nodes.items
+                c.args.bench.now.start at) (sym c.requires.at) tt;
             other = c.requires.other;
             written = written_first c.args.trial.now c.in_ok-search.search.nodes.items c.args.bench.now.noted opened.0
                 c.requires.here.opening opened.1.tree one;
           };
       kept = record {
-        apart = apart_first c.args.trial.now nodes c.args.bench.now.noted opened.0 c.args.bench.now.here opened.1.tree one
+        apart =
+            apart_first c.args.trial.now nodes c.args.bench.now.noted opened.0 c.args.bench.now.here opened.1.tree one
             c.requires.begins (c.in_ok-search.ensures.digest ∙ c.digest.ensures) c.in_ok-search.ensures.older;
         newest = c.in_ok-search.ensures.newest;
       };

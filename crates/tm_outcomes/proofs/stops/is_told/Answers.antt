@@ -6,7 +6,13 @@ use Rattle.tm_outcomes.proofs.stops.is_told.Goals as goal
 
 pub returns-then-is_same : goal.returns-then-is_same
 returns-then-is_same c = (
-  λ _. (c.loop-told.told-index, c.told-item.result, c.loop-told-test.true, sym c.told-item.is, c.is_same.ensures.0 c.if-is_same.true),
+  λ _. (
+    c.loop-told.told-index,
+    c.told-item.result,
+    c.loop-told-test.true,
+    sym c.told-item.is,
+    c.is_same.ensures.0 c.if-is_same.true,
+  ),
   λ _. refl,
 )
 
@@ -19,7 +25,8 @@ loop-told-preserved c = λ index other below same. elim (cases_lt index c.loop-t
       let last : index ≡ at = omega arith in
       let item : get_or stops at other ≡ c.told-item.result =
       get_or_default stops at other c.told-item.result c.loop-told-test.true ∙ sym c.told-item.is in
-      let here : (get_or stops at other).why ≡ c.args.why = subst (λ n. (get_or stops n other).why ≡ c.args.why) last same in
+      let here : (get_or stops at other).why ≡ c.args.why =
+      subst (λ n. (get_or stops n other).why ≡ c.args.why) last same in
       false≢true (sym c.if-is_same.false ∙ c.is_same.ensures.1 (sym (ap (λ (t : ReachedStop). t.why) item) ∙ here))
 ]
 

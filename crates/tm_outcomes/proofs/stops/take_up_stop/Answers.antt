@@ -19,7 +19,8 @@ returns-then-not-stops_by-clause-found c = λ now stands stopped.
 
 pub returns-then-is_told-clause-found : goal.returns-then-is_told-clause-found
 returns-then-is_told-clause-found c = λ now stands stopped.
-    subst (λ (ss : List ReachedStop). IsStopTold ss c.args.why) c.as_slice.ensures.value (c.is_told.ensures.0 c.if-is_told.true)
+    subst (λ (ss : List ReachedStop). IsStopTold ss c.args.why) c.as_slice.ensures.value
+    (c.is_told.ensures.0 c.if-is_told.true)
 
 pub returns-clause-stops : goal.returns-clause-stops
 returns-clause-stops c =
@@ -29,15 +30,18 @@ returns-clause-stops c =
     let at = c.requires.here schedules tree in
     let before = c.args.stops.now.items in
     let told : ReachedStop = record { why = c.args.why; schedule = c.in_ok-schedule.schedule } in
-    let same : c.in_ok-schedule.schedule.items ≡ schedule_at schedules c.args.index = c.in_ok-schedule.ensures trial schedules tree in
+    let same : c.in_ok-schedule.schedule.items ≡ schedule_at schedules c.args.index =
+    c.in_ok-schedule.ensures trial schedules tree in
     let is : IsStop trial told = record {
       asked = c.requires.asked;
       now = at.now;
       reached = record {
         allowed = subst (λ (s : List Pick). AreAllowed trial s) (sym same)
-            (All-weaker (IsPickOf trial) (λ (pick : Pick). IsAllowed trial.events pick.event) (λ (pick : Pick) is. is.allowed)
+            (All-weaker (IsPickOf trial) (λ (pick : Pick). IsAllowed trial.events pick.event)
+            (λ (pick : Pick) is. is.allowed)
             (schedule_at schedules c.args.index) (tree.picks c.args.index c.requires.within));
-        is_run = subst (λ (s : List Pick). after_schedule (trial_setting trial) (trial_opening trial) s ≡ Some at.now) (sym same) at.is_run;
+        is_run = subst (λ (s : List Pick). after_schedule (trial_setting trial) (trial_opening trial) s ≡ Some at.now)
+            (sym same) at.is_run;
       };
       sparing = subst (λ (s : List Pick). IsSparing trial s) (sym same) (tree.runs c.args.index c.requires.within).3;
       stops = (c.stops_by.ensures at.now at.stands).0 c.if-not-stops_by.false;
@@ -51,12 +55,14 @@ returns-clause-stops c =
           let there : IsStopTold before c.args.why =
           (k, get_or before k d, below, get_or_default before k (get_or before k d) d below, same_why) in
           false≢true (sym c.if-is_told.false
-          ∙ c.is_told.ensures.1 (subst (λ (ss : List ReachedStop). IsStopTold ss c.args.why) (sym c.as_slice.ensures.value) there)));
+          ∙ c.is_told.ensures.1
+          (subst (λ (ss : List ReachedStop). IsStopTold ss c.args.why) (sym c.as_slice.ensures.value) there)));
     })
 
 pub returns-clause-kept : goal.returns-clause-kept
 returns-clause-kept c = λ other told.
-    subst (λ (ss : List ReachedStop). IsStopTold ss other) (sym c.in_ok-push.ensures.items) (told_more c.args.stops.now.items _ other told)
+    subst (λ (ss : List ReachedStop). IsStopTold ss other) (sym c.in_ok-push.ensures.items)
+    (told_more c.args.stops.now.items _ other told)
 
 pub returns-clause-found : goal.returns-clause-found
 returns-clause-found c = λ now stands stopped.

@@ -12,7 +12,8 @@ loop-why-preserved c =
       kept = λ why told. c.in_ok-take_up_stop.ensures.kept why (so_far.kept why told);
       found = λ index why below is now stands stopped. elim (cases_lt index c.loop-why.why-index) [
         | inl less ↦ c.in_ok-take_up_stop.ensures.kept why (so_far.found index why less is now stands stopped)
-        | inr more ↦ told_at stops c.take_up_stop.new.stops.items now.state index c.loop-why.why-index _ why (omega arith)
+        | inr more ↦
+            told_at stops c.take_up_stop.new.stops.items now.state index c.loop-why.why-index _ why (omega arith)
             c.loop-why-test.true is stopped (c.in_ok-take_up_stop.ensures.found now stands)
       ];
     }

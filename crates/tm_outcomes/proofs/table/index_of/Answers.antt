@@ -24,9 +24,11 @@ loop-index-init c = λ none. elim none [ ]
 
 pub loop-index-preserved : goal.loop-index-preserved
 loop-index-preserved c =
-    untold_more c.args.table.now c.loop-index.index c.index-table-index.result c.args.values.now c.loop-index-test.true c.loop-index.invariant
+    untold_more c.args.table.now c.loop-index.index c.index-table-index.result c.args.values.now c.loop-index-test.true
+    c.loop-index.invariant
     (λ same. told_text c.as_slice.result.now c.args.values.now false c.if-eq.ensures (c.as_slice.ensures.value ∙ same))
 
 pub returns-clause-none : goal.returns-clause-none
 returns-clause-none c =
-    subst (λ (table : List Told). ¬ AreTold table c.args.values.now) (take_all c.loop-index.index c.args.table.now c.loop-index-test.false) c.loop-index.invariant
+    subst (λ (table : List Told). ¬ AreTold table c.args.values.now)
+    (take_all c.loop-index.index c.args.table.now c.loop-index-test.false) c.loop-index.invariant

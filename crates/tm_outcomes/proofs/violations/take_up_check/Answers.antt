@@ -35,16 +35,19 @@ returns-clause-violations c =
     let at = c.requires.here schedules tree in
     let before = c.args.violations.now.items in
     let told : Violation = record { check = c.args.check; schedule = c.in_ok-schedule.schedule } in
-    let same : c.in_ok-schedule.schedule.items ≡ schedule_at schedules c.args.index = c.in_ok-schedule.ensures trial schedules tree in
+    let same : c.in_ok-schedule.schedule.items ≡ schedule_at schedules c.args.index =
+    c.in_ok-schedule.ensures trial schedules tree in
     let is : IsViolation trial told = record {
       check = _;
       asked = slice_get-get_or trial.checks.now c.args.check _ c.requires.asked;
       end = at.now;
       reached = record {
         allowed = subst (λ (s : List Pick). AreAllowed trial s) (sym same)
-            (All-weaker (IsPickOf trial) (λ (pick : Pick). IsAllowed trial.events pick.event) (λ (pick : Pick) is. is.allowed)
+            (All-weaker (IsPickOf trial) (λ (pick : Pick). IsAllowed trial.events pick.event)
+            (λ (pick : Pick) is. is.allowed)
             (schedule_at schedules c.args.index) (tree.picks c.args.index c.requires.within));
-        is_run = subst (λ (s : List Pick). after_schedule (trial_setting trial) (trial_opening trial) s ≡ Some at.now) (sym same) at.is_run;
+        is_run = subst (λ (s : List Pick). after_schedule (trial_setting trial) (trial_opening trial) s ≡ Some at.now)
+            (sym same) at.is_run;
       };
       sparing = subst (λ (s : List Pick). IsSparing trial s) (sym same) (tree.runs c.args.index c.requires.within).3;
       has_ended = c.requires.ended at.now at.stands;
@@ -59,7 +62,8 @@ returns-clause-violations c =
           let there : IsViolationTold before c.args.check =
           (k, get_or before k d, below, get_or_default before k (get_or before k d) d below, same_check) in
           false≢true (sym c.if-is_told.false
-          ∙ c.is_told.ensures.1 (subst (λ (vs : List Violation). IsViolationTold vs c.args.check) (sym c.as_slice.ensures.value) there)));
+          ∙ c.is_told.ensures.1
+          (subst (λ (vs : List Violation). IsViolationTold vs c.args.check) (sym c.as_slice.ensures.value) there)));
     })
 
 pub returns-clause-kept : goal.returns-clause-kept

@@ -18,7 +18,8 @@ loop-check-preserved c =
         | inr more ↦
             let same : c.loop-check.check ≡ check = omega arith in
             subst (λ n. IsViolationTold c.take_up_check.new.violations.items n) same
-            (c.in_ok-take_up_check.ensures.found what (subst (λ n. slice_get checks n ≡ Some what) (sym same) is) now stands
+            (c.in_ok-take_up_check.ensures.found what
+            (subst (λ n. slice_get checks n ≡ Some what) (sym same) is) now stands
             violates)
       ];
     }

@@ -8,5 +8,6 @@ abbrev pub invariant-loop-index : goal.invariant-loop-index
 invariant-loop-index l = record {
   end : l.index-end ≡ length l.addresses;
   told : (at : ℕ) → IsAddress (length l.machine.memory) at →
-      stored_at l.bytes.items at ≡ cond (is_listed (take l.index l.addresses) at) (Some (byte_seen l.machine l.core at)) None;
+      stored_at l.bytes.items at
+      ≡ cond (is_listed (take l.index l.addresses) at) (Some (byte_seen l.machine l.core at)) None;
 }

@@ -4,7 +4,8 @@ use Rattle.tm_page.proofs.changes.changed_row.Goals as goal
 
 pub loop-number-preserved : goal.loop-number-preserved
 loop-number-preserved c =
-    let within : c.loop-number.number < length c.loop-number.row = omega (arith, c.loop-number.invariant.len, c.loop-number-test.true) in
+    let within : c.loop-number.number < length c.loop-number.row =
+    omega (arith, c.loop-number.invariant.len, c.loop-number-test.true) in
     record {
       len = length-set c.loop-number.row c.loop-number.number c.changed.result ∙ c.loop-number.invariant.len;
       filled = filled_next c.loop-number.row c.args.old.now c.args.new.now c.loop-number.number c.changed.result within

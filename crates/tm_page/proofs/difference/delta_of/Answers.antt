@@ -14,16 +14,19 @@ returns c = λ start b.
     (Some (byte_told c.args.outcome c.args.machine.now c.args.before.now.asked.core at)) None =
     rw c.in_ok-stored.ensures at c.stored_by.ensures in
     made_so start c.args.machine.now c.args.before.now c.args.outcome c.args.kept.now c.put_together.result b
-    c.put_together.ensures.core c.put_together.ensures.outcome c.put_together.ensures.state c.put_together.ensures.registers
+    c.put_together.ensures.core c.put_together.ensures.outcome c.put_together.ensures.state
+    c.put_together.ensures.registers
     (λ line.
     ap (λ v. is_listed v.items line) c.put_together.ensures.reads
     ∙ c.in_ok-reads.ensures line
-    ∙ ap (λ xs. set.contains (view_at c.args.machine.now c.args.before.now.asked.core).reads line && not (is_listed xs line))
+    ∙ ap
+    (λ xs. set.contains (view_at c.args.machine.now c.args.before.now.asked.core).reads line && not (is_listed xs line))
     c.as_slice.ensures.value)
     (λ line.
     ap (λ v. is_listed v.items line) c.put_together.ensures.writes
     ∙ c.in_ok-writes.ensures line
-    ∙ ap (λ xs. set.contains (view_at c.args.machine.now c.args.before.now.asked.core).writes line && not (is_listed xs line))
+    ∙ ap (λ xs. set.contains (view_at c.args.machine.now c.args.before.now.asked.core).writes line
+    && not (is_listed xs line))
     c.as_slice-2.ensures.value)
     (λ at within. ap (λ v. stored_at v.items at) c.put_together.ensures.stored ∙ told at within)
     c.put_together.ensures.hits

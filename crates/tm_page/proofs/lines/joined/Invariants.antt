@@ -5,5 +5,6 @@ use Rattle.tm_page.proofs.lines.joined.Given as goal
 abbrev pub invariant-loop-index : goal.invariant-loop-index
 invariant-loop-index l = record {
   end : l.index-end ≡ length l.new;
-  told : (line : ℕ) → is_listed l.lines.items line ≡ (is_listed (take l.index l.new) line && not (is_listed l.old line));
+  told :
+      (line : ℕ) → is_listed l.lines.items line ≡ (is_listed (take l.index l.new) line && not (is_listed l.old line));
 }

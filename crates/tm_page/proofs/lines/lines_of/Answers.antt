@@ -10,6 +10,7 @@ pub returns : goal.returns
 returns c =
     IfOk-weaker c.sets.result
     (λ lines. set.from_list lines.items ≡ lines_shown (view_at c.args.machine.now c.args.core) c.args.kind)
-    (λ lines. (line : ℕ) → is_listed lines.items line ≡ set.contains (lines_shown (view_at c.args.machine.now c.args.core) c.args.kind) line)
+    (λ lines. (line : ℕ)
+    → is_listed lines.items line ≡ set.contains (lines_shown (view_at c.args.machine.now c.args.core) c.args.kind) line)
     (λ lines shown line. list_any-from_list lines.items line ∙ ap (λ ls. set.contains ls line) shown)
     c.sets.ensures.shown

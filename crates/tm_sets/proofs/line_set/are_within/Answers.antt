@@ -10,7 +10,8 @@ loop-line-init c = λ k b. absurd (omega arith)
 
 pub returns-then-is_none : goal.returns-then-is_none
 returns-then-is_none c =
-    sym (not_subset c.args.lines.now (lines_of c.args.others.now) c.loop-line.line-index (get_or c.args.lines.now c.loop-line.line-index 0) c.loop-line-test.true refl
+    sym (not_subset c.args.lines.now (lines_of c.args.others.now) c.loop-line.line-index
+    (get_or c.args.lines.now c.loop-line.line-index 0) c.loop-line-test.true refl
     (sym c.place_in.ensures.found ∙ c.is_none.ensures ∙ ap not c.if-is_none.true))
 
 pub loop-line-preserved : goal.loop-line-preserved
@@ -18,9 +19,11 @@ loop-line-preserved c = λ k b.
     let here : set.contains (lines_of c.args.others.now) (get_or c.args.lines.now c.loop-line.line-index 0) ≡ true =
     sym c.place_in.ensures.found ∙ c.is_none.ensures ∙ ap not c.if-is_none.false in
     ⊎_elim
-    (λ (e : k ≡ c.loop-line.line-index). ap (λ i. set.contains (lines_of c.args.others.now) (get_or c.args.lines.now i 0)) e ∙ here)
+    (λ (e : k ≡ c.loop-line.line-index).
+    ap (λ i. set.contains (lines_of c.args.others.now) (get_or c.args.lines.now i 0)) e ∙ here)
     (λ (d : k ≡ c.loop-line.line-index → ⊥). c.loop-line.invariant k (omega arith))
     (cases_eq k c.loop-line.line-index)
 
 pub returns : goal.returns
-returns c = sym (subset_of c.args.lines.now (lines_of c.args.others.now) (λ k b. c.loop-line.invariant k (omega (arith, c.loop-line-test.false))))
+returns c = sym (subset_of c.args.lines.now (lines_of c.args.others.now)
+    (λ k b. c.loop-line.invariant k (omega (arith, c.loop-line-test.false))))

@@ -6,4 +6,5 @@ use Rattle.tm_stats.proofs.spread.size_at.Given as goal
 -- the size is the one at what is left of its rank, among the rows that are left
 abbrev pub invariant-loop-index : goal.invariant-loop-index
 invariant-loop-index l =
-    slice_get (sizes_of (drop l.start l.sizes.entries)) l.rank ≡ slice_get (sizes_of (drop l.index l.sizes.entries)) l.left
+    slice_get (sizes_of (drop l.start l.sizes.entries)) l.rank
+    ≡ slice_get (sizes_of (drop l.index l.sizes.entries)) l.left

@@ -12,17 +12,23 @@ pub returns-in_err-median : goal.returns-in_err-median
 returns-in_err-median c = λ within order.
     let counted = c.rows_of-count.ensures.count order.few in
     let some = order.some in
-    let half : c.rows_of-count.result.0 / 2 < length (sizes_of (rows_of_place c.args.place (drop c.args.start c.args.sizes.now.entries))) =
+    let half :
+    c.rows_of-count.result.0 / 2
+    < length (sizes_of (rows_of_place c.args.place (drop c.args.start c.args.sizes.now.entries))) =
     omega arith in
-    absurd (is_there c.args.place (drop c.args.start c.args.sizes.now.entries) (c.rows_of-count.result.0 / 2) half c.in_err-median.ensures)
+    absurd (is_there c.args.place (drop c.args.start c.args.sizes.now.entries) (c.rows_of-count.result.0 / 2) half
+    c.in_err-median.ensures)
 
 pub returns-in_err-most : goal.returns-in_err-most
 returns-in_err-most c = λ within order.
     let counted = c.rows_of-count.ensures.count order.few in
     let some = order.some in
-    let last : c.saturating_sub.result < length (sizes_of (rows_of_place c.args.place (drop c.args.start c.args.sizes.now.entries))) =
+    let last :
+    c.saturating_sub.result
+    < length (sizes_of (rows_of_place c.args.place (drop c.args.start c.args.sizes.now.entries))) =
     omega arith in
-    absurd (is_there c.args.place (drop c.args.start c.args.sizes.now.entries) c.saturating_sub.result last c.in_err-most.ensures)
+    absurd (is_there c.args.place (drop c.args.start c.args.sizes.now.entries) c.saturating_sub.result last
+    c.in_err-most.ensures)
 
 pub returns : goal.returns
 returns c = λ within order.

@@ -10,5 +10,6 @@ returns-clause-last c made some =
       is = refl;
       index = omega arith;
       core = c.unwrap-core.result.0;
-      step = ap (λ h. slice_get h (c.made-steps.result - 1)) (sym c.history.ensures) ∙ sym c.get.ensures ∙ c.unwrap-core.ensures;
+      step = ap (λ h. slice_get h (c.made-steps.result - 1)) (sym c.history.ensures) ∙ sym c.get.ensures
+          ∙ c.unwrap-core.ensures;
     }

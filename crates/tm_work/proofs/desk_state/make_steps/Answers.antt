@@ -12,4 +12,6 @@ pub returns-else-progress-clause-made : goal.returns-else-progress-clause-made
 returns-else-progress-clause-made c =
     let s = c.steps-made.ensures in
     let l = c.last_of-last.ensures in
-    rw c.from.ensures (steps_made _ _ _ _ _ _ _ s.made l.few l.limited l.none l.last (λ e. inr (s.fewer (ltb-true c.steps-made.result c.args.most e))))
+    rw c.from.ensures
+    (steps_made _ _ _ _ _ _ _ s.made l.few l.limited l.none l.last
+    (λ e. inr (s.fewer (ltb-true c.steps-made.result c.args.most e))))

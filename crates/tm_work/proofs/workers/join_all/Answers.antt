@@ -21,8 +21,11 @@ loop-handle-preserved g c =
       count = omega (arith, count, fewer, longer);
       jobs = λ k h is.
           let at = i.jobs (suc k) h (ap (λ l. slice_get l (suc k)) s.0 ∙ is) in
-          let next : vec_len c.loop-handle.done + suc k ≡ vec_len c.push_reserved.new.self + k = omega (arith, longer) in
+          let next : vec_len c.loop-handle.done + suc k ≡ vec_len c.push_reserved.new.self + k =
+          omega (arith, longer) in
           (at.0 ∙ next, at.1 ∙ ap (slice_index c.args.budgets.now) next);
-      done = subst (EachDone c.args.budgets.now) (sym p.items) (done_more c.args.budgets.now c.loop-handle.done.items c.join.result _ _ i.done c.join.ensures (first.0 ∙ here) (first.1 ∙ ap (slice_index c.args.budgets.now) here));
+      done = subst (EachDone c.args.budgets.now) (sym p.items)
+          (done_more c.args.budgets.now c.loop-handle.done.items c.join.result _ _ i.done c.join.ensures
+          (first.0 ∙ here) (first.1 ∙ ap (slice_index c.args.budgets.now) here));
       room = omega (arith, room, kept);
     }

@@ -13,7 +13,8 @@ pub serve-done-requires-clause-seats : goal.serve-done-requires-clause-seats
 serve-done-requires-clause-seats g c κs within =
     let entries = length g.J.DeskIdentity.given.program.entries in
     all_left c.from_vec-seats.result.items entries (length c.args.budgets.now)
-    (subst (λ (l : List SeatProgress). AreSeats l entries) (sym c.from_vec-seats.ensures.items) c.in_ok-desk.ensures.seats)
+    (subst (λ (l : List SeatProgress). AreSeats l entries) (sym c.from_vec-seats.ensures.items)
+    c.in_ok-desk.ensures.seats)
     (c.requires.budgets ∙ ap (λ (b : ShownBoard). length b.program.entries) c.requires.given)
 
 pub returns-in-None-clause-report : goal.returns-in-None-clause-report
@@ -29,7 +30,8 @@ returns-in-None-clause-report g c =
     let done_len : vec_len done ≡ length done.items = search rules in
     let steps_len : vec_len steps ≡ length steps.items = search rules in
     subst (λ (y : ShownBoard). IsReport y budgets c.close-board.result steps.items) (sym c.requires.given)
-    (report_of g.J.DeskIdentity.given c.close-board.result budgets done.items steps.items b.goes_on b.run b.seats v.done (sym done_len ∙ all) (sym steps_len ∙ count ∙ done_len) s.each)
+    (report_of g.J.DeskIdentity.given c.close-board.result budgets done.items steps.items b.goes_on b.run b.seats v.done
+    (sym done_len ∙ all) (sym steps_len ∙ count ∙ done_len) s.each)
 
 pub returns-in-Some-clause-fault : goal.returns-in-Some-clause-fault
 returns-in-Some-clause-fault g c =
@@ -38,11 +40,15 @@ returns-in-Some-clause-fault g c =
     let done = c.serve-done.result.0 in
     let left = c.in-Some.left in
     let budgets = c.args.budgets.now in
-    let rest = some_of c.serve-done.result.1 (λ l. (vec_len done < length budgets) × AreLeft l.items (vec_len done + 1) (length budgets)) left c.in-Some.is v.left in
+    let rest = some_of c.serve-done.result.1
+    (λ l. (vec_len done < length budgets) × AreLeft l.items (vec_len done + 1) (length budgets)) left
+    c.in-Some.is v.left in
     let done_len : vec_len done ≡ length done.items = search rules in
     let less = rest.0 in
     subst (λ (y : ShownBoard). IsRefused y budgets c.len-core.result c.close_both.result) (sym c.requires.given)
-    (refused_of g.J.DeskIdentity.given c.close_both.result budgets done.items left.items c.len-core.result (c.len-core.ensures ∙ done_len) b.goes_on b.run b.seats b.others v.done (omega (arith, less, done_len)) (subst (λ k. AreLeft left.items (k + 1) (length budgets)) done_len rest.1))
+    (refused_of g.J.DeskIdentity.given c.close_both.result budgets done.items left.items c.len-core.result
+    (c.len-core.ensures ∙ done_len) b.goes_on b.run b.seats b.others v.done (omega (arith, less, done_len))
+    (subst (λ k. AreLeft left.items (k + 1) (length budgets)) done_len rest.1))
 
 pub returns-in_err-desk-clause-fault_events : goal.returns-in_err-desk-clause-fault_events
 returns-in_err-desk-clause-fault_events g c =
@@ -51,4 +57,5 @@ returns-in_err-desk-clause-fault_events g c =
     let given = c.args.opening.given in
     let is : IfErr c.from_residual.result (λ e. e ≡ fault) = search rules in
     IfErr-weaker c.from_residual.result (λ e. e ≡ fault) (λ e. IsDisturbed events given (board_in e))
-    (λ e same. fresh_disturbed events given (board_in e) (ap board_in same ∙ c.in_err-desk.ensures.refused.1 ∙ sym c.requires.given)) is
+    (λ e same. fresh_disturbed events given (board_in e)
+    (ap board_in same ∙ c.in_err-desk.ensures.refused.1 ∙ sym c.requires.given)) is

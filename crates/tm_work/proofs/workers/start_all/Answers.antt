@@ -26,10 +26,11 @@ loop-core-preserved g c =
     record {
       count = omega (arith, count, longer);
       room = omega (arith, room, kept);
-      jobs = λ k h is. snoc_each (λ j x. (x.promise.core ≡ j) × (x.promise.budget ≡ slice_index c.args.budgets.now j)) c.loop-core.handles.items c.in-Ok.handle i.jobs (
-        ap (λ p. p.core) c.in-Ok.ensures.ok ∙ c.core.ensures.is ∙ ap (λ s. s.core) n.0 ∙ sym count ∙ len,
-        ap (λ p. p.budget) c.in-Ok.ensures.ok ∙ ap (λ j. slice_index c.args.budgets.now j) (sym count ∙ len),
-      ) k h (ap (λ l. slice_get l k) (sym p.items) ∙ is);
+      jobs = λ k h is. snoc_each (λ j x. (x.promise.core ≡ j) × (x.promise.budget ≡ slice_index c.args.budgets.now j))
+          c.loop-core.handles.items c.in-Ok.handle i.jobs (
+            ap (λ p. p.core) c.in-Ok.ensures.ok ∙ c.core.ensures.is ∙ ap (λ s. s.core) n.0 ∙ sym count ∙ len,
+            ap (λ p. p.budget) c.in-Ok.ensures.ok ∙ ap (λ j. slice_index c.args.budgets.now j) (sym count ∙ len),
+          ) k h (ap (λ l. slice_get l k) (sym p.items) ∙ is);
       seats = n.1;
     }
 
@@ -39,5 +40,7 @@ returns-in-Err-clause-left g c =
     let split = c.pop_front.ensures.items ∙ ap (λ o. option_to_list o ++ c.pop_front.new.self.items) c.in-Some.is in
     let n = left_next c.loop-core.seats.items c.pop_front.new.self.items c.in-Some.seat _ _ i.seats split in
     let below = c.loop-core-test.true in
-    let count = i.count in
-    (omega (arith, count, below), subst (λ (k : _). AreLeft c.pop_front.new.self.items (k + 1) (length c.args.budgets.now)) (sym count) n.1)
+    let count = i.count in (
+      omega (arith, count, below),
+      subst (λ (k : _). AreLeft c.pop_front.new.self.items (k + 1) (length c.args.budgets.now)) (sym count) n.1,
+    )

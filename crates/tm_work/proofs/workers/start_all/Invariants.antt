@@ -7,6 +7,7 @@ abbrev pub invariant-loop-core : goal.invariant-loop-core
 invariant-loop-core g l = record {
   count : vec_len l.handles ≡ l.core;
   room : length l.budgets ≤ vec_capacity l.handles;
-  jobs : (k : ℕ) (h : _) → slice_get (vec_items l.handles) k ≡ Some h → (h.promise.core ≡ k) × (h.promise.budget ≡ slice_index l.budgets k);
+  jobs : (k : ℕ) (h : _) → slice_get (vec_items l.handles) k ≡ Some h
+      → (h.promise.core ≡ k) × (h.promise.budget ≡ slice_index l.budgets k);
   seats : AreLeft l.seats.items l.core (length l.budgets);
 }

@@ -7,5 +7,6 @@ abbrev pub invariant-loop-seat : goal.invariant-loop-seat
 invariant-loop-seat g l = record {
   count : vec_len l.steps ≡ l.seat-index;
   room : vec_len l.seats ≤ vec_capacity l.steps;
-  each : (k : ℕ) (s : SeatProgress) → k < l.seat-index → slice_get (vec_items l.seats) k ≡ Some s → slice_index (vec_items l.steps) k ≡ s.progress.steps;
+  each : (k : ℕ) (s : SeatProgress) → k < l.seat-index → slice_get (vec_items l.seats) k ≡ Some s
+      → slice_index (vec_items l.steps) k ≡ s.progress.steps;
 }

@@ -11,11 +11,13 @@ loop-entry-preserved c =
     let es = c.args.entries.now in
     let i = c.loop-entry.entry-index in
     let e = c.entry-item.result in
-    one_more a c.loop-entry.self.names.items c.add_name.new.names.items (take i es) e c.loop-entry.invariant c.in_ok-add_name.ensures
+    one_more a c.loop-entry.self.names.items c.add_name.new.names.items (take i es) e c.loop-entry.invariant
+    c.in_ok-add_name.ensures
     ∙ ap (λ (l : List Entry). a ++ names_in l)
     (ap (λ (x : Entry). take i es ++ x ∷ []) c.entry-item.is ∙ sym (take_more es i e c.loop-entry-test.true))
 
 pub returns : goal.returns
 returns c =
     c.loop-entry.invariant
-    ∙ ap (λ (l : List Entry). c.args.self.now.names.items ++ names_in l) (take_all c.loop-entry.entry-index c.args.entries.now c.loop-entry-test.false)
+    ∙ ap (λ (l : List Entry). c.args.self.now.names.items ++ names_in l)
+    (take_all c.loop-entry.entry-index c.args.entries.now c.loop-entry-test.false)

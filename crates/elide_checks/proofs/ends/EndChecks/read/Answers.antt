@@ -13,5 +13,6 @@ returns-in_err-checks c =
     let r = c.from_residual-in_err-checks in
     let p = err_from_is_err_and r.result r.ensures.1 in
     rw (p.1, p.2)
-    (none_by_names c.args.text.now c.args.file.now c.args.demands.now c.args.forbids.now c.in_ok-constants.constants.names.items _
+    (none_by_names c.args.text.now c.args.file.now c.args.demands.now c.args.forbids.now
+    c.in_ok-constants.constants.names.items _
     c.in_ok-constants.ensures c.in_err-checks.ensures)

@@ -17,7 +17,8 @@ returns g c =
     let run = sent_equal (codes "run") number_value _ found.run _ _ c.from.ensures c.in_ok-send_number.ensures in
     let check = c.in_ok-send_check.ensures in
     let before = c.in_ok-send_counts.ensures in
-    let after = sent_equal (codes "after") counts_value _ (counts_of picks) _ _ (c.counts_of.ensures ∙ ap counts_of same)
+    let after =
+    sent_equal (codes "after") counts_value _ (counts_of picks) _ _ (c.counts_of.ensures ∙ ap counts_of same)
     c.in_ok-send_counts-2.ensures in
     let front = c.in_ok-send_number-2.ensures in
     let steps = sent_equal (codes "schedule") schedule_value _ (deciding found.failure) _ _ c.deciding.ensures

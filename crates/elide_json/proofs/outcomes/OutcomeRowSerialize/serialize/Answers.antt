@@ -4,7 +4,8 @@ use Rattle.elide_object.specs.Object.{number_value}
 use Rattle.elide_object.proofs.Sending.{sent_equal}
 use Rattle.serde_json.specs.Data.{string}
 use Rattle.elide_json.specs.Outcomes.{outcome_value}
-use Rattle.elide_json.specs.Words.{number_or_null, outcome_event, outcome_name, outcome_status, outcome_stop, word_or_null}
+use Rattle.elide_json.specs.Words.{number_or_null, outcome_event, outcome_name, outcome_status, outcome_stop}
+use Rattle.elide_json.specs.Words.{word_or_null}
 use Rattle.elide_json.proofs.outcomes.OutcomeRowSerialize.serialize.Goals as goal
 
 pub returns : goal.returns
@@ -13,7 +14,8 @@ returns g c =
     let written = g.S.Serializer.written in
     let outcome = c.args.self.now.outcome in
     let step = c.in_ok-send_number.ensures in
-    let core = sent_equal (codes "core") number_value _ c.args.self.now.core _ _ c.from.ensures c.in_ok-send_number-2.ensures in
+    let core =
+    sent_equal (codes "core") number_value _ c.args.self.now.core _ _ c.from.ensures c.in_ok-send_number-2.ensures in
     let name = sent_equal (codes "outcome") string _ (outcome_name outcome) _ _ c.name_of_outcome.ensures
     c.in_ok-send_text.ensures in
     let stop = sent_equal (codes "stop") word_or_null _ (outcome_stop outcome) _ _ c.stop_of_outcome.ensures

@@ -21,7 +21,8 @@ returns g c =
     c.as_slice-3.ensures.value c.in_ok-send_stops.ensures in
     let stuck = c.in_ok-send_stuck.ensures in
     let cycle = c.in_ok-send_cycle.ensures in
-    let states = sent_equal (codes "states") number_value _ search.states _ _ c.from.ensures c.in_ok-send_number-2.ensures in
+    let states =
+    sent_equal (codes "states") number_value _ search.states _ _ c.from.ensures c.in_ok-send_number-2.ensures in
     let whole = c.in_ok-send_flag.ensures in
     let status = c.in_ok-send_number-3.ensures in
     on_ok_weaker c.end_map.result (λ ended. (

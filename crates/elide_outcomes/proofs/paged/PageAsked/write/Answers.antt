@@ -12,7 +12,8 @@ returns-in-Some g c =
     let options = c.args.machine.now in
     let told = c.args.told.now in
     let one = c.in-Some.outcome.now in
-    IfErr-weaker c.write_page.result (IsNotPaged text options c.as_slice-picks.result.now) (IsNotShown text options told c.args.self)
+    IfErr-weaker c.write_page.result (IsNotPaged text options c.as_slice-picks.result.now)
+    (IsNotShown text options told c.args.self)
     (λ why none.
     not_written c.in-Of.index c.in-Of.path one c.in-Of.is
     (slice_get_read told (length told) c.in-Of.index one refl c.in-Some.ensures.lookup.3.0 c.in-Some.ensures.lookup.1)

@@ -8,4 +8,5 @@ pub returns-clause-refused : goal.returns-clause-refused
 returns-clause-refused g c =
     let machine = c.args.machine.now in
     let pick = c.args.pick in
-    IfErr-weaker c.step.result (IsUntoldStep machine pick) (IsUnexplained machine pick) (of_told machine pick) c.step.ensures.refused
+    IfErr-weaker c.step.result (IsUntoldStep machine pick) (IsUnexplained machine pick) (of_told machine pick)
+    c.step.ensures.refused

@@ -5,5 +5,6 @@ use Rattle.elide_setup.proofs.gathered.GatheredOut.put.Goals as goal
 
 pub returns-in_err-hand_on : goal.returns-in_err-hand_on
 returns-in_err-hand_on g c =
-    nothing_written _ _ _ _ _ _ _ _ _ c.from_residual.result (search rules) c.if-self-ne0.false c.in_err-hand_on.ensures.err.1
+    nothing_written _ _ _ _ _ _ _ _ _ c.from_residual.result (search rules) c.if-self-ne0.false
+    c.in_err-hand_on.ensures.err.1
     c.in_err-hand_on.ensures.err.0 (ap (λ (d : Device). d.contents) c.in_err-hand_on.ensures.err.2)

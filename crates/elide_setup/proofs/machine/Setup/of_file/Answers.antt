@@ -24,7 +24,13 @@ returns-clause-none c =
     let settings = c.args.settings.now in
     let starts = c.in_ok-starts.starts.items in
     IfErr-weaker c.load.result
-    (λ (why : Refusal). (cause : ProgramRefusal) × (why ≡ refusal_of cause) × TellsLoad file settings.memory c.as_slice.result.now cause)
+    (λ (why : Refusal). (cause : ProgramRefusal) × (why ≡ refusal_of cause)
+    × TellsLoad file settings.memory c.as_slice.result.now cause)
     (λ (why : Refusal). (cause : ProgramRefusal) × (why ≡ refusal_of cause) × IsNotLoaded file settings cause)
-    (λ why h. (h.0, h.1, not_loaded_with file settings starts c.as_slice.result.now h.0 c.as_slice.ensures.value c.in_ok-starts.ensures.cores c.in_ok-starts.ensures.many c.in_ok-starts.ensures.starts h.2))
+    (λ why h. (
+      h.0,
+      h.1,
+      not_loaded_with file settings starts c.as_slice.result.now h.0 c.as_slice.ensures.value
+          c.in_ok-starts.ensures.cores c.in_ok-starts.ensures.many c.in_ok-starts.ensures.starts h.2,
+    ))
     c.load.ensures.none

@@ -17,7 +17,8 @@ returns-in-Listed-clause-refused g c =
     let listed : List Pick = c.as_slice.result.now in
     IfErr-weaker c.walk_list.result (IsStepRefused g.S.StepMaker.takes g.S.StepMaker.refuses (IsNextOf listed) maker)
     (IsNoWalk g.S.StepMaker.takes g.S.StepMaker.refuses course c.args.cores maker)
-    (λ why h. inl (refused_as g.S.StepMaker.takes g.S.StepMaker.refuses (IsDue course c.args.cores) (IsNextOf listed) maker why
+    (λ why h.
+    inl (refused_as g.S.StepMaker.takes g.S.StepMaker.refuses (IsDue course c.args.cores) (IsNextOf listed) maker why
     (λ made pick next. subst (λ (of : Course). IsDue of c.args.cores made pick) (sym c.in-Listed.is)
     (subst (λ (picks : List Pick). IsNextOf picks made pick) c.as_slice.ensures.value next)) h))
     c.walk_list.ensures.refused
@@ -25,7 +26,8 @@ returns-in-Listed-clause-refused g c =
 pub returns-in-Drawn-clause-refused : goal.returns-in-Drawn-clause-refused
 returns-in-Drawn-clause-refused g c =
     let drawn = c.in-Drawn.drawn in
-    refused_or g.S.StepMaker.takes g.S.StepMaker.refuses (IsDue c.args.self.now c.args.cores) (IsNextDrawn drawn c.args.cores) c.args.maker.now
+    refused_or g.S.StepMaker.takes g.S.StepMaker.refuses (IsDue c.args.self.now c.args.cores)
+    (IsNextDrawn drawn c.args.cores) c.args.maker.now
     (λ (why : Refusal). why ≡ refusal.Fault (fault.Run run.NoMemory)) c.walk_asked.result
     (λ made pick next. subst (λ (of : Course). IsDue of c.args.cores made pick) (sym c.in-Drawn.is) next)
     c.walk_asked.ensures.refused

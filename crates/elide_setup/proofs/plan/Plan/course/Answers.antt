@@ -7,7 +7,8 @@ use Rattle.elide_setup.proofs.plan.Plan.course.Goals as goal
 pub returns-in_err-text-in-File-clause-none : goal.returns-in_err-text-in-File-clause-none
 returns-in_err-text-in-File-clause-none g c =
     let p = err_from_is_err_and c.from_residual.result c.from_residual.ensures.1 in
-    rw (p.1, p.2) record { path = c.in-File.path; planned = ap plan_path c.in-File.is; none = c.in_err-text-in-File.ensures.none }
+    rw (p.1, p.2)
+    record { path = c.in-File.path; planned = ap plan_path c.in-File.is; none = c.in_err-text-in-File.ensures.none }
 
 pub returns-in_err-steps_of-in-File-clause-none : goal.returns-in_err-steps_of-in-File-clause-none
 returns-in_err-steps_of-in-File-clause-none g c =
@@ -18,5 +19,6 @@ returns-in_err-steps_of-in-File-clause-none g c =
       path = c.in-File.path;
       planned = ap plan_path c.in-File.is;
       none = c.in_err-steps_of-in-File.ensures.none content
-          (subst (λ (text : List ℕ). Gives content most_bytes text) (sym c.as_slice.ensures.value) c.in_ok-text-in-File.ensures.whole);
+          (subst (λ (text : List ℕ). Gives content most_bytes text) (sym c.as_slice.ensures.value)
+          c.in_ok-text-in-File.ensures.whole);
     }

@@ -7,13 +7,16 @@ use Rattle.elide_setup.proofs.recorded.ScheduleText.write_to.Goals as goal
 
 pub returns : goal.returns
 returns g c =
-    let held : Gathered g.row.O.Denot → Option (List ℕ) = λ m. told (g.O.Out.device m.out).contents (g.O.Out.device m.before.value).contents m.failures m.row.items in
+    let held : Gathered g.row.O.Denot → Option (List ℕ) =
+    λ m. told (g.O.Out.device m.out).contents (g.O.Out.device m.before.value).contents m.failures m.row.items in
     record {
       written = (
         schedule_text c.args.self.now.0.now,
         refl,
-        passed_on (g.O.Out.device c.args.out).contents (held c.new-page.result) (held c.write_schedule.new.out) (g.O.Out.device c.in_ok-out.out).contents
-            (schedule_text c.args.self.now.0.now) c.new-page.ensures.kept c.in_ok-write_schedule.ensures.written.bytes c.in_ok-out.ensures.kept,
+        passed_on (g.O.Out.device c.args.out).contents (held c.new-page.result) (held c.write_schedule.new.out)
+            (g.O.Out.device c.in_ok-out.out).contents
+            (schedule_text c.args.self.now.0.now) c.new-page.ensures.kept c.in_ok-write_schedule.ensures.written.bytes
+            c.in_ok-out.ensures.kept,
       );
       broken = tt;
       kept = tt;

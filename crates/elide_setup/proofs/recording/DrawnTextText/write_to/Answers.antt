@@ -18,7 +18,8 @@ use Rattle.elide_setup.proofs.recording.DrawnTextText.write_to.Goals as goal
 
 pub returns-in-Ok-clause-written : goal.returns-in-Ok-clause-written
 returns-in-Ok-clause-written g c =
-    let held : Gathered g.row.O.Denot → Option (List ℕ) = λ m. told (g.O.Out.device m.out).contents (g.O.Out.device m.before.value).contents m.failures m.row.items in
+    let held : Gathered g.row.O.Denot → Option (List ℕ) =
+    λ m. told (g.O.Out.device m.out).contents (g.O.Out.device m.before.value).contents m.failures m.row.items in
     let page : Recorder g.row.O.Denot → Option (List ℕ) = λ r. held r.page in
     let left : Recorder g.row.O.Denot → List Pick → List ℕ = λ r. left_text r.writer in
     let drawn = c.args.self.now.drawn in
@@ -33,13 +34,16 @@ returns-in-Ok-clause-written g c =
     (λ (last : g.row.O.Denot). (bytes : List ℕ)
     × ((c.args.self.now.maker.ghost_name ≡ c.args.self.now.maker.ghost_name)
     × (c.args.self.now.refused ≡ c.args.self.now.refused)
-    × (steps : List (Pick × Outcome)) × AreUnder drawn.events (picks_made steps) × Leads g.S.StepMaker.takes c.args.self.now.maker.now steps c.walk_drawn.new.maker
-    × (bytes ≡ drawn_text (may_come drawn.events) (picks_told steps)) × IsDrawnOut (not (is_some drawn.seed)) c.args.self.now.cores drawn.most steps)
+    × (steps : List (Pick × Outcome)) × AreUnder drawn.events (picks_made steps)
+    × Leads g.S.StepMaker.takes c.args.self.now.maker.now steps c.walk_drawn.new.maker
+    × (bytes ≡ drawn_text (may_come drawn.events) (picks_told steps))
+    × IsDrawnOut (not (is_some drawn.seed)) c.args.self.now.cores drawn.most steps)
     × Appends first (g.O.Out.device last).contents bytes)
     (λ last rest. (
       text,
       (refl, refl, walked.0, walked.1, walked.2, refl, walked.4),
-      whole_written left page (may_come drawn.events) walked.0 begun ended first (held c.new-page.result) (g.O.Out.device last).contents
+      whole_written left page (may_come drawn.events) walked.0 begun ended first (held c.new-page.result)
+          (g.O.Out.device last).contents
           c.new-page.ensures.kept (rw events at c.in_ok-writer.ensures.title.bytes) c.in_ok-writer.ensures.begun
           (all_written left page walked.0 begun ended walked.3) rest,
     ))

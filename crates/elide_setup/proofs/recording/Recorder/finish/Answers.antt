@@ -7,6 +7,8 @@ use Rattle.elide_setup.proofs.recording.Recorder.finish.Goals as goal
 
 pub returns : goal.returns
 returns g c =
-    let held : Gathered g.row.O.Denot → Option (List ℕ) = λ m. told (g.O.Out.device m.out).contents (g.O.Out.device m.before.value).contents m.failures m.row.items in
-    then_kept (held c.args.self.page) (held c.finish.new.out) (g.O.Out.device c.in_ok-out.out).contents (left_text c.args.self.writer [])
+    let held : Gathered g.row.O.Denot → Option (List ℕ) =
+    λ m. told (g.O.Out.device m.out).contents (g.O.Out.device m.before.value).contents m.failures m.row.items in
+    then_kept (held c.args.self.page) (held c.finish.new.out) (g.O.Out.device c.in_ok-out.out).contents
+    (left_text c.args.self.writer [])
     c.in_ok-finish.ensures.bytes c.in_ok-out.ensures.kept

@@ -6,6 +6,7 @@ use Rattle.elide_setup.proofs.recording.RecorderKeeper.keep.Goals as goal
 pub returns-in-Ok-clause-kept : goal.returns-in-Ok-clause-kept
 returns-in-Ok-clause-kept g c = (
   c.in-Ok.ensures.0,
-  λ rest. ap (λ (pick : Pick). left_text c.args.self.now.writer (pick ∷ rest)) (sym c.pick_told.ensures) ∙ c.in-Ok.ensures.1 rest,
+  λ rest. ap (λ (pick : Pick). left_text c.args.self.now.writer (pick ∷ rest)) (sym c.pick_told.ensures)
+      ∙ c.in-Ok.ensures.1 rest,
   c.in-Ok.ensures.2.bytes,
 )

@@ -5,9 +5,11 @@ use Rattle.elide_setup.proofs.walk.MachineStepMaker.make_run.Goals as goal
 
 pub returns-clause-steps : goal.returns-clause-steps
 returns-clause-steps c =
-    machine_ran c.args.self.now c.steps_alone.new.self c.args.core c.steps_alone.result c.ran.result c.steps_alone.ensures.steps
+    machine_ran c.args.self.now c.steps_alone.new.self c.args.core c.steps_alone.result c.ran.result
+    c.steps_alone.ensures.steps
     c.ran.ensures.made
 
 pub returns-clause-refused : goal.returns-clause-refused
 returns-clause-refused c =
-    no_core_told c.args.self.now (lone_pick c.args.core) c.steps_alone.result c.ran.result c.steps_alone.ensures.exists c.ran.ensures.refused
+    no_core_told c.args.self.now (lone_pick c.args.core) c.steps_alone.result c.ran.result c.steps_alone.ensures.exists
+    c.ran.ensures.refused

@@ -42,9 +42,11 @@ returns-clause-refused g c =
     let first = c.args.self.now in
     let refuses : Counting → Pick → Refusal → Type 0 = λ counting pick why. IsUncountedStep counting.machine pick why in
     IfErr-weaker c.walk_recorded.result
-    (λ (why : Refusal). IsNoWalk (Counts same) refuses course c.cores-cores.result first why ⊎ IsUnrecorded c.args.path why)
+    (λ (why : Refusal). IsNoWalk (Counts same) refuses course c.cores-cores.result first why
+    ⊎ IsUnrecorded c.args.path why)
     (IsUncounted course (length first.machine.views) c.args.path)
-    (λ why h. of_walk same course c.cores-cores.result c.args.path first why c.cores-cores.ensures.count c.in_ok-check_cores.ensures.fit h)
+    (λ why h. of_walk same course c.cores-cores.result c.args.path first why c.cores-cores.ensures.count
+    c.in_ok-check_cores.ensures.fit h)
     c.walk_recorded.ensures.refused
 
 pub returns-in_err-check_cores-clause-refused : goal.returns-in_err-check_cores-clause-refused
@@ -52,4 +54,5 @@ returns-in_err-check_cores-clause-refused g c =
     let why = c.in_err-check_cores.field-0.0 in
     let p = err_from_is_err_and c.from_residual.result c.from_residual.ensures.1 in
     rw (p.1, p.2)
-    (beyond (subst (λ (cores : ℕ). NamesNoCore (listed_in c.args.course.now) cores why) c.cores-cores.ensures.count c.in_err-check_cores.ensures.none))
+    (beyond (subst (λ (cores : ℕ). NamesNoCore (listed_in c.args.course.now) cores why) c.cores-cores.ensures.count
+    c.in_err-check_cores.ensures.none))

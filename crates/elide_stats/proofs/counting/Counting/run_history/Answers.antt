@@ -72,4 +72,5 @@ returns-in_err-make_step-clause-refused g c =
     let same : length machine.views ≡ length c.args.board.now.program.entries = c.loop-index.invariant.3 ∙ c.requires in
     let p = err_from_is_err_and c.from_residual.result c.from_residual.ensures.1 in
     rw (p.1, p.2)
-    (of_step machine pick c.in_err-make_step.field-0.0 (subst (λ (n : ℕ). pick.core < n) (sym same) within) c.in_err-make_step.ensures.refused)
+    (of_step machine pick c.in_err-make_step.field-0.0 (subst (λ (n : ℕ). pick.core < n) (sym same) within)
+    c.in_err-make_step.ensures.refused)

@@ -15,5 +15,27 @@ returns g c =
     let status = sent_equal (codes "status") number_value _ (tests_status c.args.self.now.files.now) _ _
     c.status_of.ensures c.in_ok-send_number-2.ensures in
     on_ok_weaker c.end_map.result
-    (λ ended. (written c.begin_map.new.self, c.in_ok-begin_map.ensures, (format.0, written c.send_number.new.out, format.1, format.2, (command.0, written c.send_text.new.out, command.1, command.2, (files.0, written c.send_files.new.out, files.1, files.2, (status.0, written c.send_number-2.new.out, status.1, status.2, ended))))))
+    (λ ended. (
+      written c.begin_map.new.self,
+      c.in_ok-begin_map.ensures,
+      (
+        format.0,
+        written c.send_number.new.out,
+        format.1,
+        format.2,
+        (
+          command.0,
+          written c.send_text.new.out,
+          command.1,
+          command.2,
+          (
+            files.0,
+            written c.send_files.new.out,
+            files.1,
+            files.2,
+            (status.0, written c.send_number-2.new.out, status.1, status.2, ended),
+          ),
+        ),
+      ),
+    ))
     c.end_map.ensures

@@ -13,9 +13,11 @@ loop-entry-preserved g c =
     record {
       text = search rules;
       tail = search rules;
-      walk = after_next before behind _ es i c.entry-item.result (omega arith) c.entry-item.is c.in_ok-spot.ensures.next c.loop-entry.invariant.walk;
+      walk = after_next before behind _ es i c.entry-item.result (omega arith) c.entry-item.is c.in_ok-spot.ensures.next
+          c.loop-entry.invariant.walk;
       taken = λ t x.
           c.loop-entry.invariant.taken t (taken_next g.T.Taker.Taken (g.met.T.Taker c.lifetimes claim).goes_on
-          c.loop-entry.self.taker c.take.new.self t before behind (entry_place c.in_ok-spot.spot) es i c.entry-item.result
+          c.loop-entry.self.taker c.take.new.self t before behind (entry_place c.in_ok-spot.spot) es i
+          c.entry-item.result
           (omega arith) c.entry-item.is c.in_ok-spot.ensures.place c.in_ok-spot.ensures.next c.in_ok-take.ensures x);
     }

@@ -8,7 +8,8 @@ abbrev pub invariant-loop-entry : goal.invariant-loop-entry
 invariant-loop-entry g l = record {
   text : l.self.walk.text + (length l.entries - l.entry-index) * 2 ^ 64 ≤ 2 ^ 125;
   tail : l.self.walk.tail + (length l.entries - l.entry-index) * 2 ^ 64 ≤ 2 ^ 125;
-  walk : after (layout_state l.self.walk) (drop l.entry-index l.entries) ≡ after (layout_state l.initial.self.walk) l.entries;
+  walk : after (layout_state l.self.walk) (drop l.entry-index l.entries)
+      ≡ after (layout_state l.initial.self.walk) l.entries;
   taken : (t : _) → g.T.Taker.Taken l.self.taker (places (layout_state l.self.walk) (drop l.entry-index l.entries)) t
       → g.T.Taker.Taken l.initial.self.taker (places (layout_state l.initial.self.walk) l.entries) t;
 }

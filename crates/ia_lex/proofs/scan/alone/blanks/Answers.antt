@@ -9,5 +9,6 @@ loop-place-preserved c =
     let rest = take_rest c.args.line.now c.loop-place.place in
     record {
       within = omega arith;
-      same = blank_more c.loop-place.place c.args.line.now (sym (c.in-Blank.ensures.front ∙ ap front rest)) ∙ c.loop-place.invariant.same;
+      same = blank_more c.loop-place.place c.args.line.now (sym (c.in-Blank.ensures.front ∙ ap front rest))
+          ∙ c.loop-place.invariant.same;
     }

@@ -8,4 +8,5 @@ use Rattle.ia_lex.proofs.scan.alone.is_bare.Goals as goal
 pub returns-in-Bad : goal.returns-in-Bad
 returns-in-Bad c =
     let rest = take_rest c.args.line.now c.blanks.result in
-    sym (ap is_bare (sym c.blanks.ensures.same) ∙ bare_bad (drop c.blanks.result c.args.line.now) (sym (c.in-Bad.ensures.front ∙ ap front rest)))
+    sym (ap is_bare (sym c.blanks.ensures.same)
+    ∙ bare_bad (drop c.blanks.result c.args.line.now) (sym (c.in-Bad.ensures.front ∙ ap front rest)))

@@ -23,15 +23,19 @@ decided line k w n b same e h bare =
 pub returns-then-is_bare : goal.returns-then-is_bare
 unfolding tokens_of
 returns-then-is_bare c =
-    let word = sym c.in-One-Word-default.ensures.front ∙ ap (λ t. One (lexeme_of t) c.in-One-Word-default.n) c.in-One-Word-default.field-0-is in
+    let word = sym c.in-One-Word-default.ensures.front
+    ∙ ap (λ t. One (lexeme_of t) c.in-One-Word-default.n) c.in-One-Word-default.field-0-is in
     ap (chosen c.in-One-Word-default.word.now) (sym c.if-is_bare.true)
-    ∙ decided c.args.line.now c.blanks.result c.in-One-Word-default.word.now c.in-One-Word-default.n c.is_bare.result c.blanks.ensures.same word
+    ∙ decided c.args.line.now c.blanks.result c.in-One-Word-default.word.now c.in-One-Word-default.n c.is_bare.result
+    c.blanks.ensures.same word
     (omega (arith, c.in-One-Word-default.ensures.within.0)) c.is_bare.ensures
 
 pub returns-else-is_bare : goal.returns-else-is_bare
 unfolding tokens_of
 returns-else-is_bare c =
-    let word = sym c.in-One-Word-default.ensures.front ∙ ap (λ t. One (lexeme_of t) c.in-One-Word-default.n) c.in-One-Word-default.field-0-is in
+    let word = sym c.in-One-Word-default.ensures.front
+    ∙ ap (λ t. One (lexeme_of t) c.in-One-Word-default.n) c.in-One-Word-default.field-0-is in
     ap (chosen c.in-One-Word-default.word.now) (sym c.if-is_bare.false)
-    ∙ decided c.args.line.now c.blanks.result c.in-One-Word-default.word.now c.in-One-Word-default.n c.is_bare.result c.blanks.ensures.same word
+    ∙ decided c.args.line.now c.blanks.result c.in-One-Word-default.word.now c.in-One-Word-default.n c.is_bare.result
+    c.blanks.ensures.same word
     (omega (arith, c.in-One-Word-default.ensures.within.0)) c.is_bare.ensures

@@ -20,7 +20,8 @@ first_follows (b ∷ bs) = by (b == 46)
 
 pub descend-requires-clause-follows : goal.descend-requires-clause-follows
 descend-requires-clause-follows c = elim c.if-is_local.branch [
-  | then-is_local w ↦ local_follows (get_or (wholes c.args.self.now.nodes.keys) c.if-is_local.from []) c.args.own.now (sym c.is_local.ensures ∙ w.if-is_local.true)
+  | then-is_local w ↦ local_follows (get_or (wholes c.args.self.now.nodes.keys) c.if-is_local.from []) c.args.own.now
+      (sym c.is_local.ensures ∙ w.if-is_local.true)
   | else-is_local w ↦
       ap (λ n. may_follow (get_or (wholes c.args.self.now.nodes.keys) n []) c.args.own.now) w.from-is
       ∙ ap (λ front. may_follow front c.args.own.now) (first_whole c.args.self.now.nodes.keys)
@@ -33,7 +34,8 @@ returns-clause-named c = (c.in_ok-number.ensures.known, c.in_ok-number.ensures.n
     own : List ℕ
     own = c.args.own.now
 
-    whole : get_or (wholes c.args.self.now.nodes.keys) c.if-is_local.from [] ++ own ≡ whole_of c.args.self.now.scope.text.now own
+    whole : get_or (wholes c.args.self.now.nodes.keys) c.if-is_local.from [] ++ own
+        ≡ whole_of c.args.self.now.scope.text.now own
     whole = elim c.if-is_local.branch [
       | then-is_local w ↦
           let local : is_local own ≡ true = sym c.is_local.ensures ∙ w.if-is_local.true in

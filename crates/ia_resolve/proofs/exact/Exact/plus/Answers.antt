@@ -14,5 +14,7 @@ returns-clause-value c =
     let more_high : FitsSigned w128 c.args.more.high = search rules in
     let more_low : FitsSigned w128 c.args.more.low = search rules in
     part_by_part c.args.negative c.args.self c.args.more _
-    (to_z-of_z w128 c.plus.result high_fits ∙ c.plus.ensures.value ∙ rw (to_z-of_z w128 c.args.self.high self_high) (rw (to_z-of_z w128 c.args.more.high more_high) refl))
-    (to_z-of_z w128 c.plus-2.result low_fits ∙ c.plus-2.ensures.value ∙ rw (to_z-of_z w128 c.args.self.low self_low) (rw (to_z-of_z w128 c.args.more.low more_low) refl))
+    (to_z-of_z w128 c.plus.result high_fits ∙ c.plus.ensures.value
+    ∙ rw (to_z-of_z w128 c.args.self.high self_high) (rw (to_z-of_z w128 c.args.more.high more_high) refl))
+    (to_z-of_z w128 c.plus-2.result low_fits ∙ c.plus-2.ensures.value
+    ∙ rw (to_z-of_z w128 c.args.self.low self_low) (rw (to_z-of_z w128 c.args.more.low more_low) refl))

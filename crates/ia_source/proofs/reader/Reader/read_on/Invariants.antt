@@ -14,7 +14,8 @@ invariant-parts g l = record {
   none : l.self.whole ≡ None;
   grows : Grows l.initial.self.names l.self.names;
   walked : (es : List Entry) × ((r : Reading) → IsNaming r.naming l.self.names
-      → lines_behind (map (entry_content r) es) (entries_with r l.rest l.self.names []) ≡ entries_with r l.initial.rest l.initial.self.names [])
+      → lines_behind (map (entry_content r) es) (entries_with r l.rest l.self.names [])
+      ≡ entries_with r l.initial.rest l.initial.self.names [])
       × AllFit es × g.W.Walk.Walked l.initial.walk es l.walk;
 }
 

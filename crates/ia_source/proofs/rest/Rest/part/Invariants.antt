@@ -10,7 +10,8 @@ abbrev pub invariant-lines : goal.invariant-lines
 invariant-lines l = record {
   source : l.self.source.now ≡ l.initial.self.source.now;
   grows : Grows l.initial.names l.names;
-  read : (r : Reading) → IsNaming r.naming l.names → entries_with r l.self l.names l.entries.list.items ≡ entries_with r l.initial.self l.initial.names [];
+  read : (r : Reading) → IsNaming r.naming l.names
+      → entries_with r l.self l.names l.entries.list.items ≡ entries_with r l.initial.self l.initial.names [];
   fit : AllFit l.entries.list.items;
   onward : l.initial.self.place ≤ l.self.place;
 }

@@ -11,9 +11,11 @@ returns-then-count-eq0 g c =
         take c.pieces.at c.args.bytes.now,
         drop c.pieces.at c.args.bytes.now,
         sym (take-append-drop c.pieces.at c.args.bytes.now),
-        appends_stay _ _ _ _ _ c.write_some-count.result c.if-count-eq0.true c.pieces.invariant.1 c.write_some-count.ensures.written,
+        appends_stay _ _ _ _ _ c.write_some-count.result c.if-count-eq0.true c.pieces.invariant.1
+            c.write_some-count.ensures.written,
       );
-      failures = rose_counted c.args.self.now.failures c.pieces.self.failures c.saturating_add-self.result (omega arith) c.pieces.invariant.2 c.saturating_add-self.ensures;
+      failures = rose_counted c.args.self.now.failures c.pieces.self.failures c.saturating_add-self.result (omega arith)
+          c.pieces.invariant.2 c.saturating_add-self.ensures;
     }
 
 pub pieces-preserved : goal.pieces-preserved
@@ -22,6 +24,7 @@ pieces-preserved g c =
     let rest = rest_is c.args.bytes.now c.pieces.at within in
     let long = rest_long c.args.bytes.now c.pieces.at within in (
       omega (arith, c.write_some-count.ensures.within),
-      appends_more _ _ _ c.args.bytes.now _ c.pieces.at c.write_some-count.result rest c.pieces.invariant.1 c.write_some-count.ensures.written,
+      appends_more _ _ _ c.args.bytes.now _ c.pieces.at c.write_some-count.result rest c.pieces.invariant.1
+          c.write_some-count.ensures.written,
       c.pieces.invariant.2,
     )

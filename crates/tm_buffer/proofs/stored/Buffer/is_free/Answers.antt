@@ -1,4 +1,5 @@
-use Rattle.std.proofs.Common.{◌≡◌, ◌<◌, ℕ, true, Option, Some, None, length, get_or, vec_len, refl, sym, ap, ◌∙◌, ⊎_elim, arith, rules}
+use Rattle.std.proofs.Common.{◌≡◌, ◌<◌, ℕ, true, Option, Some, None, length, get_or, vec_len, refl, sym, ap, ◌∙◌}
+use Rattle.std.proofs.Common.{⊎_elim, arith, rules}
 use Rattle.std.specs.Prelude.{not}
 use Rattle.std.specs.Option.{is_some}
 use Rattle.std.proofs.lemmas.Bool.{cases_eq, eq-eqb, ne_eqb, le-leb}
@@ -18,10 +19,13 @@ told c = get_or_read c.self.inside.places.items c.args.slot c.index.result.now
     (omega (arith, c.requires, ap (λ h. h.room) c.self.view_is, c.self.invariant.0.places)) c.index.ensures 0
 
 -- no line holds a slot whose place isn't that of a line that holds it
-free : (c : After-index) → (c.index.result.now < length c.self.inside.slots.items → get_or c.self.inside.slots.items c.index.result.now 0 ≡ c.args.slot → ⊥)
+free : (c : After-index)
+    → (c.index.result.now < length c.self.inside.slots.items
+    → get_or c.self.inside.slots.items c.index.result.now 0 ≡ c.args.slot → ⊥)
     → true ≡ not (is_some (place_of c.args.self.now.slots c.args.slot))
 free c other = sym (ap (λ o. not (is_some o)) (ap (λ h. place_of h.slots c.args.slot) (sym c.self.view_is)
-    ∙ is_free c.self.inside.slots.items c.self.inside.places.items c.self.inside.room c.args.slot c.index.result.now c.self.invariant.0.held (told c) other))
+    ∙ is_free c.self.inside.slots.items c.self.inside.places.items c.self.inside.room c.args.slot c.index.result.now
+    c.self.invariant.0.held (told c) other))
 
 pub returns-then-place-len : goal.returns-then-place-len
 returns-then-place-len c =
@@ -33,7 +37,8 @@ pub returns-else-place-len : goal.returns-else-place-len
 returns-else-place-len c =
     let slots : vec_len c.self.inside.slots ≡ length c.self.inside.slots.items = search rules in
     let own : ℕ = c.index-else-place-len.result.now in
-    let within : c.index.result.now < length c.self.inside.slots.items = omega (arith, c.if-place-len.false, c.len.ensures) in
+    let within : c.index.result.now < length c.self.inside.slots.items =
+    omega (arith, c.if-place-len.false, c.len.ensures) in
     let read : own ≡ get_or c.self.inside.slots.items c.index.result.now 0 =
     get_or_read c.self.inside.slots.items c.index.result.now own within c.index-else-place-len.ensures 0 in
     ⊎_elim

@@ -10,7 +10,8 @@ last_is : (c : After-line_of-last) → c.line_of-last.result ≡ last_line c.arg
 last_is c = c.line_of-last.ensures ∙ ap (λ b. line (c.args.address + (b - 1))) c.bytes.ensures
 
 -- the order with the lines of the access
-grown : (c : After-line_of-last) → with_line (with_line c.args.self.now.order c.line_of-first.result) c.line_of-last.result
+grown : (c : After-line_of-last)
+    → with_line (with_line c.args.self.now.order c.line_of-first.result) c.line_of-last.result
     ≡ with_lines c.args.self.now.order (lines c.args.address c.args.width)
 grown c =
     (λ i. with_line (with_line c.args.self.now.order (c.line_of-first.ensures i)) (last_is c i))
@@ -18,7 +19,8 @@ grown c =
 
 pub returns-then-used_with-self-clause-full : goal.returns-then-used_with-self-clause-full
 returns-then-used_with-self-clause-full c =
-    let count = c.used_with.ensures ∙ ap length (grown (goal.at.returns-then-used_with-self-clause-full c).After-line_of-last) in
+    let count =
+    c.used_with.ensures ∙ ap length (grown (goal.at.returns-then-used_with-self-clause-full c).After-line_of-last) in
     sym (lt-ltb _ _ (omega (arith, ap (λ h. h.room) c.self.view_is, count, c.if-used_with-self.true)))
 
 pub returns-clause-full : goal.returns-clause-full
@@ -40,12 +42,15 @@ returns-clause-lines c =
 pub returns-clause-first : goal.returns-clause-first
 returns-clause-first c =
     let own : holds c.take.new.self.order (line c.args.address) ≡ true =
-    ap (λ xs. holds xs (line c.args.address)) (c.take.ensures.order ∙ ap (with_line c.args.self.now.order) c.line_of-first.ensures)
+    ap (λ xs. holds xs (line c.args.address))
+    (c.take.ensures.order ∙ ap (with_line c.args.self.now.order) c.line_of-first.ensures)
     ∙ holds_own c.args.self.now.order (line c.args.address) in
-    ap (λ xs. holds xs (line c.args.address)) c.take-2.ensures.order ∙ holds_still c.take.new.self.order c.line_of-last.result (line c.args.address) own
+    ap (λ xs. holds xs (line c.args.address)) c.take-2.ensures.order
+    ∙ holds_still c.take.new.self.order c.line_of-last.result (line c.args.address) own
 
 pub returns-clause-last : goal.returns-clause-last
 returns-clause-last c =
     let last = last_is (goal.at.returns-clause-last c).After-line_of-last in
-    ap (λ xs. holds xs (last_line c.args.address c.args.width)) (c.take-2.ensures.order ∙ ap (with_line c.take.new.self.order) last)
+    ap (λ xs. holds xs (last_line c.args.address c.args.width))
+    (c.take-2.ensures.order ∙ ap (with_line c.take.new.self.order) last)
     ∙ holds_own c.take.new.self.order (last_line c.args.address c.args.width)

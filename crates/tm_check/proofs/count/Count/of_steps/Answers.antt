@@ -15,13 +15,17 @@ steps-preserved c =
       | then-is_counted w ↦
           let same = w.number-is in
           record {
-            counted = w.number-is ∙ counted c.args.self history index c.steps.number (c.in-Some.core, c.in-Some.outcome) at (sym c.is_counted.ensures ∙ w.if-is_counted.true) before.counted;
+            counted = w.number-is
+                ∙ counted c.args.self history index c.steps.number (c.in-Some.core, c.in-Some.outcome) at
+                (sym c.is_counted.ensures ∙ w.if-is_counted.true) before.counted;
             few = omega arith;
           }
       | else-is_counted w ↦
           let same = w.number-is in
           record {
-            counted = w.number-is ∙ not_counted c.args.self history index c.steps.number (c.in-Some.core, c.in-Some.outcome) at (sym c.is_counted.ensures ∙ w.if-is_counted.false) before.counted;
+            counted = w.number-is
+                ∙ not_counted c.args.self history index c.steps.number (c.in-Some.core, c.in-Some.outcome) at
+                (sym c.is_counted.ensures ∙ w.if-is_counted.false) before.counted;
             few = omega arith;
           }
     ]

@@ -8,7 +8,8 @@ use Rattle.tm_core.specs.Representation.{AreClosed, IsHeld, IsStepUnder, cpu_at,
 use Rattle.tm_core.specs.Theorem.{SameMachine, ShownMachine, StandsFor, TakesStepUnder, view_at}
 use Rattle.tm_core.specs.Types.{Write}
 use Rattle.tm_core.proofs.Closed.{closed_all}
-use Rattle.tm_core.proofs.MachineLemmas.{held_at, length-views_list, same_machine, step_at, still_machine, top_step, view_at_is}
+use Rattle.tm_core.proofs.MachineLemmas.{held_at, length-views_list, same_machine, step_at, still_machine, top_step}
+use Rattle.tm_core.proofs.MachineLemmas.{view_at_is}
 use Rattle.tm_core.proofs.MachineLemmas.{written_back}
 use Rattle.tm_core.proofs.machine.Machine.abort_under.Goals as goal
 
@@ -22,14 +23,28 @@ invariant_of-self g c =
     let cpus : List Cpu = c.self.inside.cpus.items in
     let cpus2 : List Cpu = c.abort_by-outcome.new.cpus in
     let same_cores : length cpus2 ≡ length cpus = c.abort_by-outcome.auto.cpus ∙ ap length c.deref_mut.ensures.value in
-    let back : take c.self.inside.cpus.len (cpus2 ++ drop (length cpus2) cpus) ≡ cpus2 = written_back cpus cpus2 c.self.inside.cpus.len same_cores (sym c.deref_mut.ensures.len ∙ ap length c.deref_mut.ensures.value) in
-    let is : IsStepUnder (Some (event.Abort c.args.by)) (parts_setting code base (length m) a) m (cpu_views a cpus) (length cpus) c.args.core c.abort_by-outcome.result m (cpu_views b cpus2) = step_at (Some (event.Abort c.args.by)) a b code c.deref.result.now base m m m cpus c.deref_mut.result.now cpus2 c.args.core c.abort_by-outcome.result c.deref.ensures.value refl c.deref_mut.ensures.value (c.abort_by-outcome.ensures.step m) in
-    let below : c.args.core < length cpus = subst (λ n. c.args.core < n) (ap (λ (s : ShownMachine). length s.views) (sym c.self.view_is) ∙ length-views_list a 0 cpus) c.requires.core in
+    let back : take c.self.inside.cpus.len (cpus2 ++ drop (length cpus2) cpus) ≡ cpus2 =
+    written_back cpus cpus2 c.self.inside.cpus.len same_cores
+    (sym c.deref_mut.ensures.len ∙ ap length c.deref_mut.ensures.value) in
+    let is : IsStepUnder (Some (event.Abort c.args.by)) (parts_setting code base (length m) a) m (cpu_views a cpus)
+    (length cpus) c.args.core c.abort_by-outcome.result m (cpu_views b cpus2) =
+    step_at (Some (event.Abort c.args.by)) a b code c.deref.result.now base m m m cpus c.deref_mut.result.now cpus2
+    c.args.core c.abort_by-outcome.result c.deref.ensures.value refl c.deref_mut.ensures.value
+    (c.abort_by-outcome.ensures.step m) in
+    let below : c.args.core < length cpus =
+    subst (λ n. c.args.core < n)
+    (ap (λ (s : ShownMachine). length s.views) (sym c.self.view_is) ∙ length-views_list a 0 cpus) c.requires.core in
     let busy2 = c.any_open-self-inside.result in
-    let quiet : busy2 ≡ false → AreClosed cpus2 = λ e. subst AreClosed (c.deref-3.ensures.value ∙ back) (closed_all c.deref-3.result.now (sym c.any_open-self-inside.ensures ∙ e)) in
-    let held : (j : ℕ) → j < length cpus → IsHeld (a.fixed.room Write) (kept_at b cpus2 j) = held_at (a.fixed.room Write) b cpus c.deref_mut.result.now cpus2 c.deref_mut.ensures.value c.abort_by-outcome.ensures.held in
+    let quiet : busy2 ≡ false → AreClosed cpus2 =
+    λ e. subst AreClosed (c.deref-3.ensures.value ∙ back)
+    (closed_all c.deref-3.result.now (sym c.any_open-self-inside.ensures ∙ e)) in
+    let held : (j : ℕ) → j < length cpus → IsHeld (a.fixed.room Write) (kept_at b cpus2 j) =
+    held_at (a.fixed.room Write) b cpus c.deref_mut.result.now cpus2 c.deref_mut.ensures.value
+    c.abort_by-outcome.ensures.held in
     subst (λ x. IsMachine b code base c.self.inside.rows.items c.self.inside.lines.items m x busy2) (sym back)
-    (still_machine (Some (event.Abort c.args.by)) code base m m a b cpus cpus2 c.args.core c.abort_by-outcome.result c.abort_by-outcome.ensures.fixed same_cores refl is c.self.inside.rows.items c.self.inside.lines.items c.self.inside.busy busy2 held quiet below c.self.invariant)
+    (still_machine (Some (event.Abort c.args.by)) code base m m a b cpus cpus2 c.args.core c.abort_by-outcome.result
+    c.abort_by-outcome.ensures.fixed same_cores refl is c.self.inside.rows.items c.self.inside.lines.items
+    c.self.inside.busy busy2 held quiet below c.self.invariant)
 
 pub returns-clause-same : goal.returns-clause-same
 returns-clause-same g c =
@@ -41,11 +56,20 @@ returns-clause-same g c =
     let cpus : List Cpu = c.self.inside.cpus.items in
     let cpus2 : List Cpu = c.abort_by-outcome.new.cpus in
     let same_cores : length cpus2 ≡ length cpus = c.abort_by-outcome.auto.cpus ∙ ap length c.deref_mut.ensures.value in
-    let back : take c.self.inside.cpus.len (cpus2 ++ drop (length cpus2) cpus) ≡ cpus2 = written_back cpus cpus2 c.self.inside.cpus.len same_cores (sym c.deref_mut.ensures.len ∙ ap length c.deref_mut.ensures.value) in
-    let is : IsStepUnder (Some (event.Abort c.args.by)) (parts_setting code base (length m) a) m (cpu_views a cpus) (length cpus) c.args.core c.abort_by-outcome.result m (cpu_views b cpus2) = step_at (Some (event.Abort c.args.by)) a b code c.deref.result.now base m m m cpus c.deref_mut.result.now cpus2 c.args.core c.abort_by-outcome.result c.deref.ensures.value refl c.deref_mut.ensures.value (c.abort_by-outcome.ensures.step m) in
-    subst (λ s. SameMachine s (shown_by b code base m (take c.self.inside.cpus.len (cpus2 ++ drop (length cpus2) cpus)))) c.self.view_is
+    let back : take c.self.inside.cpus.len (cpus2 ++ drop (length cpus2) cpus) ≡ cpus2 =
+    written_back cpus cpus2 c.self.inside.cpus.len same_cores
+    (sym c.deref_mut.ensures.len ∙ ap length c.deref_mut.ensures.value) in
+    let is : IsStepUnder (Some (event.Abort c.args.by)) (parts_setting code base (length m) a) m (cpu_views a cpus)
+    (length cpus) c.args.core c.abort_by-outcome.result m (cpu_views b cpus2) =
+    step_at (Some (event.Abort c.args.by)) a b code c.deref.result.now base m m m cpus c.deref_mut.result.now cpus2
+    c.args.core c.abort_by-outcome.result c.deref.ensures.value refl c.deref_mut.ensures.value
+    (c.abort_by-outcome.ensures.step m) in
+    subst
+    (λ s. SameMachine s (shown_by b code base m (take c.self.inside.cpus.len (cpus2 ++ drop (length cpus2) cpus))))
+    c.self.view_is
     (subst (λ x. SameMachine (shown_by a code base m cpus) (shown_by b code base m x)) (sym back)
-    (same_machine (Some (event.Abort c.args.by)) code base m m a b cpus cpus2 c.args.core c.abort_by-outcome.result c.abort_by-outcome.ensures.fixed same_cores refl is))
+    (same_machine (Some (event.Abort c.args.by)) code base m m a b cpus cpus2 c.args.core c.abort_by-outcome.result
+    c.abort_by-outcome.ensures.fixed same_cores refl is))
 
 pub returns-clause-ok : goal.returns-clause-ok
 returns-clause-ok g c st d =
@@ -57,24 +81,41 @@ returns-clause-ok g c st d =
     let cpus : List Cpu = c.self.inside.cpus.items in
     let cpus2 : List Cpu = c.abort_by-outcome.new.cpus in
     let same_cores : length cpus2 ≡ length cpus = c.abort_by-outcome.auto.cpus ∙ ap length c.deref_mut.ensures.value in
-    let back : take c.self.inside.cpus.len (cpus2 ++ drop (length cpus2) cpus) ≡ cpus2 = written_back cpus cpus2 c.self.inside.cpus.len same_cores (sym c.deref_mut.ensures.len ∙ ap length c.deref_mut.ensures.value) in
-    let is : IsStepUnder (Some (event.Abort c.args.by)) (parts_setting code base (length m) a) m (cpu_views a cpus) (length cpus) c.args.core c.abort_by-outcome.result m (cpu_views b cpus2) = step_at (Some (event.Abort c.args.by)) a b code c.deref.result.now base m m m cpus c.deref_mut.result.now cpus2 c.args.core c.abort_by-outcome.result c.deref.ensures.value refl c.deref_mut.ensures.value (c.abort_by-outcome.ensures.step m) in
-    let below : c.args.core < length cpus = subst (λ n. c.args.core < n) (ap (λ (s : ShownMachine). length s.views) (sym c.self.view_is) ∙ length-views_list a 0 cpus) c.requires.core in
-    subst (λ s. StandsFor s st d → TakesStepUnder (Some (event.Abort c.args.by)) s (shown_by b code base m (take c.self.inside.cpus.len (cpus2 ++ drop (length cpus2) cpus))) st d c.args.core c.abort_by-outcome.result) c.self.view_is
-    (subst (λ x. StandsFor (shown_by a code base m cpus) st d → TakesStepUnder (Some (event.Abort c.args.by)) (shown_by a code base m cpus) (shown_by b code base m x) st d c.args.core c.abort_by-outcome.result) (sym back)
-    (top_step (Some (event.Abort c.args.by)) code base m m a b cpus cpus2 c.args.core c.abort_by-outcome.result c.abort_by-outcome.ensures.fixed same_cores refl is below st d))
+    let back : take c.self.inside.cpus.len (cpus2 ++ drop (length cpus2) cpus) ≡ cpus2 =
+    written_back cpus cpus2 c.self.inside.cpus.len same_cores
+    (sym c.deref_mut.ensures.len ∙ ap length c.deref_mut.ensures.value) in
+    let is : IsStepUnder (Some (event.Abort c.args.by)) (parts_setting code base (length m) a) m (cpu_views a cpus)
+    (length cpus) c.args.core c.abort_by-outcome.result m (cpu_views b cpus2) =
+    step_at (Some (event.Abort c.args.by)) a b code c.deref.result.now base m m m cpus c.deref_mut.result.now cpus2
+    c.args.core c.abort_by-outcome.result c.deref.ensures.value refl c.deref_mut.ensures.value
+    (c.abort_by-outcome.ensures.step m) in
+    let below : c.args.core < length cpus =
+    subst (λ n. c.args.core < n)
+    (ap (λ (s : ShownMachine). length s.views) (sym c.self.view_is) ∙ length-views_list a 0 cpus) c.requires.core in
+    subst (λ s. StandsFor s st d → TakesStepUnder (Some (event.Abort c.args.by)) s
+    (shown_by b code base m (take c.self.inside.cpus.len (cpus2 ++ drop (length cpus2) cpus))) st d c.args.core
+    c.abort_by-outcome.result) c.self.view_is
+    (subst (λ x. StandsFor (shown_by a code base m cpus) st d → TakesStepUnder (Some (event.Abort c.args.by))
+    (shown_by a code base m cpus) (shown_by b code base m x) st d c.args.core c.abort_by-outcome.result) (sym back)
+    (top_step (Some (event.Abort c.args.by)) code base m m a b cpus cpus2 c.args.core c.abort_by-outcome.result
+    c.abort_by-outcome.ensures.fixed same_cores refl is below st d))
 
 pub abort_by-outcome-requires-clause-exists : goal.abort_by-outcome-requires-clause-exists
 abort_by-outcome-requires-clause-exists g c =
     let a : Content = g.S.Sets.content c.self.inside.sets in
     let cpus : List Cpu = c.self.inside.cpus.items in
-    subst (λ n. c.args.core < n) (ap (λ (s : ShownMachine). length s.views) (sym c.self.view_is) ∙ length-views_list a 0 cpus ∙ ap length (sym c.deref_mut.ensures.value)) c.requires.core
+    subst (λ n. c.args.core < n)
+    (ap (λ (s : ShownMachine). length s.views) (sym c.self.view_is) ∙ length-views_list a 0 cpus
+    ∙ ap length (sym c.deref_mut.ensures.value)) c.requires.core
 
 pub abort_by-outcome-requires-clause-open : goal.abort_by-outcome-requires-clause-open
 abort_by-outcome-requires-clause-open g c =
     let a : Content = g.S.Sets.content c.self.inside.sets in
     let cpus : List Cpu = c.self.inside.cpus.items in
-    let below : c.args.core < length cpus = subst (λ n. c.args.core < n) (ap (λ (s : ShownMachine). length s.views) (sym c.self.view_is) ∙ length-views_list a 0 cpus) c.requires.core in
+    let below : c.args.core < length cpus =
+    subst (λ n. c.args.core < n)
+    (ap (λ (s : ShownMachine). length s.views) (sym c.self.view_is) ∙ length-views_list a 0 cpus) c.requires.core in
     ap (λ xs. (cpu_at xs c.args.core).state) c.deref_mut.ensures.value
-    ∙ ap (λ (v : View). v.mode) (sym (view_at_is a c.self.inside.code.items c.self.inside.base c.self.inside.memory.items cpus c.args.core below))
+    ∙ ap (λ (v : View). v.mode)
+    (sym (view_at_is a c.self.inside.code.items c.self.inside.base c.self.inside.memory.items cpus c.args.core below))
     ∙ ap (λ (s : ShownMachine). (view_at s c.args.core).mode) c.self.view_is ∙ c.requires.open

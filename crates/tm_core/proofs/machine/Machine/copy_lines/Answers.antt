@@ -18,8 +18,10 @@ copy_cores-requires-clause-cores g c =
 pub copy_cores-requires-clause-lines : goal.copy_cores-requires-clause-lines
 copy_cores-requires-clause-lines g c =
     let d : Content = g.S.Sets.content c.other.inside.sets in
-    subst (λ xs. (i place : ℕ) → i < length xs → place < length (cpu_at xs i).buffer.order → IsWritten d i (get_or (cpu_at xs i).buffer.order place 0)) (sym c.deref-2.ensures.value)
-    (each_written d c.other.inside.code.items c.other.inside.base (length c.other.inside.memory.items) c.other.inside.cpus.items
+    subst (λ xs. (i place : ℕ) → i < length xs → place < length (cpu_at xs i).buffer.order
+    → IsWritten d i (get_or (cpu_at xs i).buffer.order place 0)) (sym c.deref-2.ensures.value)
+    (each_written d c.other.inside.code.items c.other.inside.base (length c.other.inside.memory.items)
+    c.other.inside.cpus.items
     c.other.invariant.sound c.other.invariant.within)
 
 pub invariant_of-self : goal.invariant_of-self
@@ -30,7 +32,8 @@ invariant_of-self g c =
     machine_copied a b d c.self.inside.code.items c.other.inside.code.items c.self.inside.base c.other.inside.base
     c.self.inside.memory.items c.reopen_each.new.memory c.other.inside.memory.items c.self.inside.cpus.items
     c.copy_cores.new.cpus c.deref_mut-2.result.now c.other.inside.cpus.items c.args.self.now c.args.other.now
-    c.self.inside.memory.len c.self.inside.cpus.len c.self.view_is c.other.view_is c.requires.same c.requires.elsewhere.count
+    c.self.inside.memory.len c.self.inside.cpus.len c.self.view_is c.other.view_is c.requires.same
+    c.requires.elsewhere.count
     (sym c.deref_mut.ensures.len ∙ ap length c.deref_mut.ensures.value) (c.reopen_each.ensures ∙ c.deref.ensures.value)
     (sym c.deref_mut-2.ensures.len ∙ ap length c.deref_mut-2.ensures.value) c.deref_mut-2.ensures.value
     c.copy_cores.auto.cpus c.copy_cores.ensures.fixed
@@ -46,7 +49,8 @@ returns-clause-same g c =
     same_copied a b d c.self.inside.code.items c.other.inside.code.items c.self.inside.base c.other.inside.base
     c.self.inside.memory.items c.reopen_each.new.memory c.other.inside.memory.items c.self.inside.cpus.items
     c.copy_cores.new.cpus c.deref_mut-2.result.now c.other.inside.cpus.items c.args.self.now c.args.other.now
-    c.self.inside.memory.len c.self.inside.cpus.len c.self.view_is c.other.view_is c.requires.same c.requires.elsewhere.count
+    c.self.inside.memory.len c.self.inside.cpus.len c.self.view_is c.other.view_is c.requires.same
+    c.requires.elsewhere.count
     (sym c.deref_mut.ensures.len ∙ ap length c.deref_mut.ensures.value) (c.reopen_each.ensures ∙ c.deref.ensures.value)
     (sym c.deref_mut-2.ensures.len ∙ ap length c.deref_mut-2.ensures.value) c.deref_mut-2.ensures.value
     c.copy_cores.auto.cpus c.copy_cores.ensures.fixed
@@ -60,7 +64,8 @@ returns-clause-views g c = λ _.
     views_copied a b d c.self.inside.code.items c.other.inside.code.items c.self.inside.base c.other.inside.base
     c.self.inside.memory.items c.reopen_each.new.memory c.other.inside.memory.items c.self.inside.cpus.items
     c.copy_cores.new.cpus c.deref_mut-2.result.now c.other.inside.cpus.items c.args.self.now c.args.other.now
-    c.self.inside.memory.len c.self.inside.cpus.len c.self.view_is c.other.view_is c.requires.same c.requires.elsewhere.count
+    c.self.inside.memory.len c.self.inside.cpus.len c.self.view_is c.other.view_is c.requires.same
+    c.requires.elsewhere.count
     (sym c.deref_mut.ensures.len ∙ ap length c.deref_mut.ensures.value) (c.reopen_each.ensures ∙ c.deref.ensures.value)
     (sym c.deref_mut-2.ensures.len ∙ ap length c.deref_mut-2.ensures.value) c.deref_mut-2.ensures.value
     c.copy_cores.auto.cpus c.copy_cores.ensures.fixed
@@ -74,7 +79,8 @@ returns-clause-stands g c = λ _.
     stands_copied a b d c.self.inside.code.items c.other.inside.code.items c.self.inside.base c.other.inside.base
     c.self.inside.memory.items c.reopen_each.new.memory c.other.inside.memory.items c.self.inside.cpus.items
     c.copy_cores.new.cpus c.deref_mut-2.result.now c.other.inside.cpus.items c.args.self.now c.args.other.now
-    c.self.inside.memory.len c.self.inside.cpus.len c.self.view_is c.other.view_is c.requires.same c.requires.elsewhere.count
+    c.self.inside.memory.len c.self.inside.cpus.len c.self.view_is c.other.view_is c.requires.same
+    c.requires.elsewhere.count
     (sym c.deref_mut.ensures.len ∙ ap length c.deref_mut.ensures.value) (c.reopen_each.ensures ∙ c.deref.ensures.value)
     (sym c.deref_mut-2.ensures.len ∙ ap length c.deref_mut-2.ensures.value) c.deref_mut-2.ensures.value
     c.copy_cores.auto.cpus c.copy_cores.ensures.fixed

@@ -10,10 +10,14 @@ use Rattle.tm_core.proofs.MachineLemmas.{run_more, takes_under}
 use Rattle.tm_core.proofs.machine.Machine.interfere.Goals as goal
 
 -- where the event befalls nothing
-as_without : (by : Interference) (old new : ShownMachine) (core : ℕ) (r : Result Outcome NoSuchCore) → core < length old.views → is_open (view_at old core).mode ≡ false →
+as_without : (by : Interference) (old new : ShownMachine) (core : ℕ) (r : Result Outcome NoSuchCore)
+    → core < length old.views → is_open (view_at old core).mode ≡ false →
     IfOk r (λ outcome. (a : State) (d : ℕ → Option ℕ) → StandsFor old a d → TakesStep old new a d core outcome) →
-    IfOk r (λ outcome. (a : State) (d : ℕ → Option ℕ) → StandsFor old a d → TakesStepUnder (Some (event.Abort by)) old new a d core outcome)
-as_without by old new core (Ok outcome) below closed takes = λ a d stands. takes_under by old new a d core outcome below closed stands (takes a d stands)
+    IfOk r
+    (λ outcome. (a : State) (d : ℕ → Option ℕ) → StandsFor old a d
+    → TakesStepUnder (Some (event.Abort by)) old new a d core outcome)
+as_without by old new core (Ok outcome) below closed takes =
+    λ a d stands. takes_under by old new a d core outcome below closed stands (takes a d stands)
 as_without by old new core (Err fault) below closed takes = tt
 
 pub returns-in-Some-clause-ok : goal.returns-in-Some-clause-ok
@@ -21,8 +25,11 @@ returns-in-Some-clause-ok g c = c.abort_under.ensures.ok
 
 pub returns-in-None-clause-ok : goal.returns-in-None-clause-ok
 returns-in-None-clause-ok g c =
-    as_without c.args.by c.args.self.now c.step.new.self c.args.core c.step.result (c.in_ok-depth.ensures.exists.0 refl) (subst (λ (found : Option ℕ). IfNone found (is_open (view_at c.args.self.now c.args.core).mode ≡ false)) c.in-None.is c.in_ok-depth.ensures.none) c.step.ensures.ok
+    as_without c.args.by c.args.self.now c.step.new.self c.args.core c.step.result (c.in_ok-depth.ensures.exists.0 refl)
+    (subst (λ (found : Option ℕ). IfNone found (is_open (view_at c.args.self.now c.args.core).mode ≡ false))
+    c.in-None.is c.in_ok-depth.ensures.none) c.step.ensures.ok
 
 pub returns-in-Some-clause-run : goal.returns-in-Some-clause-run
 returns-in-Some-clause-run g c start a d steps =
-    run_more (Some (event.Abort c.args.by)) c.args.self.now c.abort_under.new.self c.args.core c.abort_under.result c.abort_under.ensures.same c.abort_under.ensures.ok start a d steps
+    run_more (Some (event.Abort c.args.by)) c.args.self.now c.abort_under.new.self c.args.core c.abort_under.result
+    c.abort_under.ensures.same c.abort_under.ensures.ok start a d steps

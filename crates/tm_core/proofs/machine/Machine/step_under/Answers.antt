@@ -8,10 +8,16 @@ use Rattle.tm_core.proofs.machine.Machine.step_under.Goals as goal
 
 -- the same by another name of the event
 named : (old new : ShownMachine) (core : ℕ) (r : Result Outcome NoSuchCore) (one other : Event) → one ≡ other →
-    IfOk r (λ outcome. (a : State) (d : ℕ → Option ℕ) → StandsFor old a d → TakesStepUnder (Some one) old new a d core outcome) →
-    IfOk r (λ outcome. (a : State) (d : ℕ → Option ℕ) → StandsFor old a d → TakesStepUnder (Some other) old new a d core outcome)
+    IfOk r
+    (λ outcome. (a : State) (d : ℕ → Option ℕ) → StandsFor old a d → TakesStepUnder (Some one) old new a d core outcome)
+    →
+    IfOk r
+    (λ outcome. (a : State) (d : ℕ → Option ℕ) → StandsFor old a d
+    → TakesStepUnder (Some other) old new a d core outcome)
 named old new core r one other same takes =
-    subst (λ e. IfOk r (λ outcome. (a : State) (d : ℕ → Option ℕ) → StandsFor old a d → TakesStepUnder (Some e) old new a d core outcome)) same takes
+    subst (λ e. IfOk r (λ outcome. (a : State) (d : ℕ → Option ℕ) → StandsFor old a d
+    → TakesStepUnder (Some e) old new a d core outcome)) same takes
 
 pub returns-clause-ok : goal.returns-clause-ok
-returns-clause-ok g c = named c.args.self.now c.interfere.new.self c.args.core c.interfere.result _ c.args.event (grind arith) c.interfere.ensures.ok
+returns-clause-ok g c = named c.args.self.now c.interfere.new.self c.args.core c.interfere.result _ c.args.event
+    (grind arith) c.interfere.ensures.ok

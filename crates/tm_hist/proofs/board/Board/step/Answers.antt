@@ -16,10 +16,12 @@ use Rattle.tm_hist.proofs.board.Board.step.Goals as goal
 pub returns-in-Ok-clause-stops : goal.returns-in-Ok-clause-stops
 returns-in-Ok-clause-stops c k stopped =
     let h = c.self.invariant in
-    let doom = doomed_at_end (machine_setting h.start) (opening_state c.self.inside.program) (λ _. None) (map pair_of c.self.inside.made.items) in
+    let doom = doomed_at_end (machine_setting h.start) (opening_state c.self.inside.program) (λ _. None)
+    (map pair_of c.self.inside.made.items) in
     let stands = h.is_run.takes.stands in (
       stopped.0,
-      stays_stopped None c.self.inside.machine c.step.new.self h.is_run.takes.last doom c.args.core c.in-Ok.outcome stands c.in-Ok.ensures.same
+      stays_stopped None c.self.inside.machine c.step.new.self h.is_run.takes.last doom c.args.core c.in-Ok.outcome
+          stands c.in-Ok.ensures.same
           (c.in-Ok.ensures.ok h.is_run.takes.last doom stands) k stopped.0
           (ap (λ (b : ShownBoard). stop_shown (shown_state b.machine k)) c.self.view_is ∙ stopped.1),
     )
@@ -27,19 +29,24 @@ returns-in-Ok-clause-stops c k stopped =
 pub returns-in-Ok-clause-idle : goal.returns-in-Ok-clause-idle
 returns-in-Ok-clause-idle c =
     let h = c.self.invariant in
-    let doom = doomed_at_end (machine_setting h.start) (opening_state c.self.inside.program) (λ _. None) (map pair_of c.self.inside.made.items) in
+    let doom = doomed_at_end (machine_setting h.start) (opening_state c.self.inside.program) (λ _. None)
+    (map pair_of c.self.inside.made.items) in
     let stands = h.is_run.takes.stands in
-    let both = idle_exactly None c.self.inside.machine c.step.new.self h.is_run.takes.last doom c.args.core c.in-Ok.outcome stands (c.in-Ok.ensures.exists.0 refl)
+    let both = idle_exactly None c.self.inside.machine c.step.new.self h.is_run.takes.last doom c.args.core
+    c.in-Ok.outcome stands (c.in-Ok.ensures.exists.0 refl)
     (c.in-Ok.ensures.ok h.is_run.takes.last doom stands) in
     subst (λ (b : ShownBoard). (c.in-Ok.outcome ≡ Idle) ↔ IsStopped b c.args.core) c.self.view_is both
 
 pub returns-in-Ok-clause-alone : goal.returns-in-Ok-clause-alone
 returns-in-Ok-clause-alone c =
     let h = c.self.invariant in
-    let doom = doomed_at_end (machine_setting h.start) (opening_state c.self.inside.program) (λ _. None) (map pair_of c.self.inside.made.items) in
-    tells_none c.self.inside.machine c.step.new.self h.is_run.takes.last doom c.args.core c.in-Ok.outcome (c.in-Ok.ensures.ok h.is_run.takes.last doom h.is_run.takes.stands)
+    let doom = doomed_at_end (machine_setting h.start) (opening_state c.self.inside.program) (λ _. None)
+    (map pair_of c.self.inside.made.items) in
+    tells_none c.self.inside.machine c.step.new.self h.is_run.takes.last doom c.args.core c.in-Ok.outcome
+    (c.in-Ok.ensures.ok h.is_run.takes.last doom h.is_run.takes.stands)
 
 pub returns-in-Ok-clause-owed : goal.returns-in-Ok-clause-owed
 returns-in-Ok-clause-owed c =
     subst (λ (b : ShownBoard). IsOwedNext None b c.args.core c.in-Ok.outcome) c.self.view_is
-    (owed_behind None _ c.step.new.self c.args.core c.in-Ok.outcome (is_history _ _ c.self.invariant) c.in-Ok.ensures.ok)
+    (owed_behind None _ c.step.new.self c.args.core c.in-Ok.outcome (is_history _ _ c.self.invariant)
+    c.in-Ok.ensures.ok)

@@ -16,10 +16,12 @@ use Rattle.tm_hist.proofs.board.Board.step_under.Goals as goal
 pub returns-in-Ok-clause-stops : goal.returns-in-Ok-clause-stops
 returns-in-Ok-clause-stops c k stopped =
     let h = c.self.invariant in
-    let doom = doomed_at_end (machine_setting h.start) (opening_state c.self.inside.program) (λ _. None) (map pair_of c.self.inside.made.items) in
+    let doom = doomed_at_end (machine_setting h.start) (opening_state c.self.inside.program) (λ _. None)
+    (map pair_of c.self.inside.made.items) in
     let stands = h.is_run.takes.stands in (
       stopped.0,
-      stays_stopped (Some c.args.event) c.self.inside.machine c.step_under.new.self h.is_run.takes.last doom c.args.core c.in-Ok.told stands c.in-Ok.ensures.same
+      stays_stopped (Some c.args.event) c.self.inside.machine c.step_under.new.self h.is_run.takes.last doom c.args.core
+          c.in-Ok.told stands c.in-Ok.ensures.same
           (c.in-Ok.ensures.ok h.is_run.takes.last doom stands) k stopped.0
           (ap (λ (b : ShownBoard). stop_shown (shown_state b.machine k)) c.self.view_is ∙ stopped.1),
     )
@@ -27,18 +29,23 @@ returns-in-Ok-clause-stops c k stopped =
 pub returns-in-Ok-clause-idle : goal.returns-in-Ok-clause-idle
 returns-in-Ok-clause-idle c =
     let h = c.self.invariant in
-    let doom = doomed_at_end (machine_setting h.start) (opening_state c.self.inside.program) (λ _. None) (map pair_of c.self.inside.made.items) in
+    let doom = doomed_at_end (machine_setting h.start) (opening_state c.self.inside.program) (λ _. None)
+    (map pair_of c.self.inside.made.items) in
     let stands = h.is_run.takes.stands in
-    let both = idle_exactly (Some c.args.event) c.self.inside.machine c.step_under.new.self h.is_run.takes.last doom c.args.core c.in-Ok.told stands (c.in-Ok.ensures.exists.0 refl)
+    let both = idle_exactly (Some c.args.event) c.self.inside.machine c.step_under.new.self h.is_run.takes.last doom
+    c.args.core c.in-Ok.told stands (c.in-Ok.ensures.exists.0 refl)
     (c.in-Ok.ensures.ok h.is_run.takes.last doom stands) in
     subst (λ (b : ShownBoard). (c.in-Ok.told ≡ Idle) ↔ IsStopped b c.args.core) c.self.view_is both
 
 pub returns-in-Ok-clause-owed : goal.returns-in-Ok-clause-owed
 returns-in-Ok-clause-owed c =
     subst (λ (b : ShownBoard). IsOwedNext (Some c.args.event) b c.args.core c.in-Ok.told) c.self.view_is
-    (owed_behind (Some c.args.event) _ c.step_under.new.self c.args.core c.in-Ok.told (is_history _ _ c.self.invariant) c.in-Ok.ensures.ok)
+    (owed_behind (Some c.args.event) _ c.step_under.new.self c.args.core c.in-Ok.told (is_history _ _ c.self.invariant)
+    c.in-Ok.ensures.ok)
 
 pub returns-in-Ok-clause-told : goal.returns-in-Ok-clause-told
 returns-in-Ok-clause-told c =
-    subst (λ (b : ShownBoard). TellsAsShown c.args.event (shown_state b.machine c.args.core) c.in-Ok.told) c.self.view_is
-    (tells_as_shown c.args.event _ c.step_under.new.self c.args.core c.in-Ok.told (is_history _ _ c.self.invariant) (c.in-Ok.ensures.exists.0 refl) c.in-Ok.ensures.ok)
+    subst (λ (b : ShownBoard). TellsAsShown c.args.event (shown_state b.machine c.args.core) c.in-Ok.told)
+    c.self.view_is
+    (tells_as_shown c.args.event _ c.step_under.new.self c.args.core c.in-Ok.told (is_history _ _ c.self.invariant)
+    (c.in-Ok.ensures.exists.0 refl) c.in-Ok.ensures.ok)

@@ -9,4 +9,5 @@ returns c = λ is.
     c.split_at.ensures.front
     (c.split_at-2.ensures.front ∙ ap (take c.args.self.steps) c.split_at.ensures.back)
     (c.leads_there.ensures.came (search rules)) (c.leads_there.ensures.alike (search rules))
-    (c.leads_back.ensures.rounds is) (c.leads_back.ensures.made is) c.leads_back.ensures.same (c.leads_back.ensures.alike is)
+    (c.leads_back.ensures.rounds is) (c.leads_back.ensures.made is) c.leads_back.ensures.same
+    (c.leads_back.ensures.alike is)

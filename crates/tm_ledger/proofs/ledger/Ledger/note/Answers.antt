@@ -19,7 +19,8 @@ compare_exchange_with-requires g c =
     let j = c.join_seat.ensures in
     let line = c.token.inside.seat.me.0.line in
     let all = c.self.inside.keeper.me.0.all in
-    let held = j.2 ∙ ap (λ m. (keeper_with all line m, c.self.inside.keeper.me.1)) k.2.1 ∙ ap (λ r. (keeper_with all line (Some k.2.0), r)) (ap (λ u. u.1) i.3) in
+    let held = j.2 ∙ ap (λ m. (keeper_with all line m, c.self.inside.keeper.me.1)) k.2.1
+    ∙ ap (λ r. (keeper_with all line (Some k.2.0), r)) (ap (λ u. u.1) i.3) in
     (j.0 ∙ i.2, omega arith, notes_as _ _ _ _ _ _ c.args.now.now (λ n. either (eqb n 0) 0 n) held)
 
 pub split_seat-seat-requires : goal.split_seat-seat-requires
@@ -31,7 +32,8 @@ split_seat-seat-requires g c =
     let line = c.token.inside.seat.me.0.line in
     let all = c.self.inside.keeper.me.0.all in
     let m = c.args.now.now in
-    let held = j.2 ∙ ap (λ m. (keeper_with all line m, c.self.inside.keeper.me.1)) k.2.1 ∙ ap (λ r. (keeper_with all line (Some k.2.0), r)) (ap (λ u. u.1) i.3) in
+    let held = j.2 ∙ ap (λ m. (keeper_with all line m, c.self.inside.keeper.me.1)) k.2.1
+    ∙ ap (λ r. (keeper_with all line (Some k.2.0), r)) (ap (λ u. u.1) i.3) in
     let noted = s.2.1 m refl ∙ ap (λ u. (keeper_with (slice_set u.0.all u.0.line m) u.0.line (Some m), u.1)) held in
     (s.0 ∙ j.0 ∙ i.2, omega arith, gives_as _ _ _ _ _ noted)
 
@@ -45,7 +47,8 @@ invariant_of-self g c =
     let line = c.token.inside.seat.me.0.line in
     let all = c.self.inside.keeper.me.0.all in
     let m = c.args.now.now in
-    let held = j.2 ∙ ap (λ m. (keeper_with all line m, c.self.inside.keeper.me.1)) k.2.1 ∙ ap (λ r. (keeper_with all line (Some k.2.0), r)) (ap (λ u. u.1) i.3) in
+    let held = j.2 ∙ ap (λ m. (keeper_with all line m, c.self.inside.keeper.me.1)) k.2.1
+    ∙ ap (λ r. (keeper_with all line (Some k.2.0), r)) (ap (λ u. u.1) i.3) in
     let noted = s.2.1 m refl ∙ ap (λ u. (keeper_with (slice_set u.0.all u.0.line m) u.0.line (Some m), u.1)) held in
     (i.0, i.1, t.0 ∙ s.0 ∙ j.0 ∙ i.2, keeper_again _ _ (t.2 ∙ ap (λ u. (keeper_of u.0.all, u.1)) noted))
 
@@ -59,7 +62,8 @@ invariant_of-result g c =
     let line = c.token.inside.seat.me.0.line in
     let all = c.self.inside.keeper.me.0.all in
     let m = c.args.now.now in
-    let held = j.2 ∙ ap (λ m. (keeper_with all line m, c.self.inside.keeper.me.1)) k.2.1 ∙ ap (λ r. (keeper_with all line (Some k.2.0), r)) (ap (λ u. u.1) i.3) in
+    let held = j.2 ∙ ap (λ m. (keeper_with all line m, c.self.inside.keeper.me.1)) k.2.1
+    ∙ ap (λ r. (keeper_with all line (Some k.2.0), r)) (ap (λ u. u.1) i.3) in
     let noted = s.2.1 m refl ∙ ap (λ u. (keeper_with (slice_set u.0.all u.0.line m) u.0.line (Some m), u.1)) held in
     let mine = t.4 ∙ ap (λ u. (token_of u.0.line u.0.progress, [])) noted in
     (t.3 ∙ s.0 ∙ j.0 ∙ i.2 ∙ i.0, token_again _ _ _ mine, (m, ap (λ u. u.0.progress) mine))
@@ -86,7 +90,8 @@ returns-clause-token g c =
     let line = c.token.inside.seat.me.0.line in
     let all = c.self.inside.keeper.me.0.all in
     let m = c.args.now.now in
-    let held = j.2 ∙ ap (λ m. (keeper_with all line m, c.self.inside.keeper.me.1)) k.2.1 ∙ ap (λ r. (keeper_with all line (Some k.2.0), r)) (ap (λ u. u.1) i.3) in
+    let held = j.2 ∙ ap (λ m. (keeper_with all line m, c.self.inside.keeper.me.1)) k.2.1
+    ∙ ap (λ r. (keeper_with all line (Some k.2.0), r)) (ap (λ u. u.1) i.3) in
     let noted = s.2.1 m refl ∙ ap (λ u. (keeper_with (slice_set u.0.all u.0.line m) u.0.line (Some m), u.1)) held in
     let mine = t.4 ∙ ap (λ u. (token_of u.0.line u.0.progress, [])) noted in
     ap (λ u. (u.0.line, u.0.progress)) mine ∙ ap (λ v. (v.0, Some m)) c.token.view_is

@@ -12,7 +12,8 @@ nodes-init c = record {
   bench = c.requires.bench;
   here = refl;
   noted = refl;
-  looking = looks c.args.trial.now c.args.nodes.now c.args.self.now.noted c.args.self.now.here c.args.newest c.requires.newest;
+  looking = looks c.args.trial.now c.args.nodes.now c.args.self.now.noted c.args.self.now.here c.args.newest
+      c.requires.newest;
 }
 
 pub nodes-smaller : goal.nodes-smaller
@@ -28,7 +29,8 @@ nodes-smaller c =
     let within = index_within trial nodes before.noted before.here index looking in
     let older : next ≡ older_at nodes index = sym (get_or-map (λ (n : Node). n.older) nodes index node None within) in
     let newest : IsNewest nodes (digest_at nodes index) index next =
-    subst (λ (o : Option ℕ). IsNewest nodes (digest_at nodes index) index o) (sym older) (c.requires.apart.older index within) in
+    subst (λ (o : Option ℕ). IsNewest nodes (digest_at nodes index) index o) (sym older)
+    (c.requires.apart.older index within) in
     subst (λ (o : Option ℕ). left_of next < left_of o) (sym c.in-Some.is)
     (fewer_left nodes (digest_at nodes index) index next newest)
 
@@ -59,4 +61,5 @@ returns-clause-none c = λ _.
     let nodes : List Node = c.args.nodes.now in
     let before = c.args.self.now in
     all_others trial nodes before.noted before.here c.requires.apart
-    (subst (λ (o : Option ℕ). IsLooking trial nodes before.noted before.here o) c.in_default.is c.nodes.invariant.looking)
+    (subst (λ (o : Option ℕ). IsLooking trial nodes before.noted before.here o) c.in_default.is
+    c.nodes.invariant.looking)

@@ -27,7 +27,8 @@ returns-then-copy-clause-bench c =
 
 pub returns-then-copy-clause-here : goal.returns-then-copy-clause-here
 returns-then-copy-clause-here c = λ schedules tree.
-    c.copy.ensures.at c.if-copy.true c.args.trial.now (schedule_at schedules c.args.index) (c.requires.start schedules tree)
+    c.copy.ensures.at c.if-copy.true c.args.trial.now (schedule_at schedules c.args.index)
+    (c.requires.start schedules tree)
 
 pub place_of-requires-clause-place : goal.place_of-requires-clause-place
 place_of-requires-clause-place c = c.copy.ensures.place c.args.trial.now c.requires.bench.here c.requires.bench.start

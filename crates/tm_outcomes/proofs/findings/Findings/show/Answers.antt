@@ -1,7 +1,8 @@
 use Rattle.std.proofs.Common.{◌≡◌, ℕ, List, [], ◌∷◌, Some, sym, ◌∙◌, subst, arith}
 use Rattle.std.specs.Prelude.{All, Contains}
 use Rattle.std.proofs.lemmas.Bool.{false≢true}
-use Rattle.std.proofs.lemmas.List.Elements.{All-append, All-cons, All-nil, All-weaker, Contains-append_left, Contains-push}
+use Rattle.std.proofs.lemmas.List.Elements.{All-append, All-cons, All-nil, All-weaker, Contains-append_left}
+use Rattle.std.proofs.lemmas.List.Elements.{Contains-push}
 use Rattle.tm_model.specs.declared.outcome.Pick.{Pick}
 use Rattle.tm_outcomes.specs.Nodes.{IsEnd, IsPickOf, schedule_at}
 use Rattle.tm_outcomes.specs.Outcomes.{AreAllowed, AreTold, IsAllowed, IsSparing, trial_opening, trial_setting}
@@ -17,13 +18,16 @@ take_up-requires-clause-outcome c =
     let schedules = c.requires.tree.0 in
     let tree = c.requires.tree.1 in
     let at : IsAt trial place (schedule_at schedules c.args.index) = c.in_ok-come_to.ensures.start schedules tree in
-    let same : c.in_ok-schedule.schedule.items ≡ schedule_at schedules c.args.index = c.in_ok-schedule.ensures trial schedules tree in
+    let same : c.in_ok-schedule.schedule.items ≡ schedule_at schedules c.args.index =
+    c.in_ok-schedule.ensures trial schedules tree in
     record {
       allowed = subst (λ (s : List Pick). AreAllowed trial s) (sym same)
-          (All-weaker (IsPickOf trial) (λ (pick : Pick). IsAllowed trial.events pick.event) (λ (pick : Pick) is. is.allowed)
+          (All-weaker (IsPickOf trial) (λ (pick : Pick). IsAllowed trial.events pick.event)
+          (λ (pick : Pick) is. is.allowed)
           (schedule_at schedules c.args.index) (tree.picks c.args.index c.requires.within));
       end = at.now;
-      is_run = subst (λ (s : List Pick). after_schedule (trial_setting trial) (trial_opening trial) s ≡ Some at.now) (sym same) at.is_run;
+      is_run = subst (λ (s : List Pick). after_schedule (trial_setting trial) (trial_opening trial) s ≡ Some at.now)
+          (sym same) at.is_run;
       has_ended = (c.has_ended.ensures at.now at.stands).0 c.if-not-has_ended.false;
       shown = c.in_ok-values.ensures at.now at.stands;
     }
@@ -47,7 +51,8 @@ returns-then-not-has_ended-clause-shows c = λ schedules tree.
         end = λ now leads ended. absurd (false≢true (sym c.if-not-has_ended.true
             ∙ (c.has_ended.ensures now (leads_stands trial schedules c.args.index place now at leads)).1 ended));
         stops = λ now leads why asked stopped.
-            c.in_ok-take_up_stops.ensures.found why asked now (leads_stands trial schedules c.args.index place now at leads) stopped;
+            c.in_ok-take_up_stops.ensures.found why asked now
+            (leads_stands trial schedules c.args.index place now at leads) stopped;
         checks = λ now leads ended. absurd (false≢true (sym c.if-not-has_ended.true
             ∙ (c.has_ended.ensures now (leads_stands trial schedules c.args.index place now at leads)).1 ended));
       };
@@ -55,7 +60,8 @@ returns-then-not-has_ended-clause-shows c = λ schedules tree.
       kept = λ other was. record {
         outcome = was.outcome;
         end = was.end;
-        stops = λ now leads why asked stopped. c.in_ok-take_up_stops.ensures.kept why (was.stops now leads why asked stopped);
+        stops = λ now leads why asked stopped. c.in_ok-take_up_stops.ensures.kept why
+            (was.stops now leads why asked stopped);
         checks = was.checks;
       };
     }
@@ -72,18 +78,22 @@ returns-clause-shows c = λ schedules tree.
     let at : IsAt trial place (schedule_at schedules index) = c.in_ok-come_to.ensures.start schedules tree in
     let here : IsEnd trial schedules index = record {
       within = (let t = tree.counted in let w = c.requires.within in omega arith);
-      ended = λ now leads. (c.has_ended.ensures now (leads_stands trial schedules index place now at leads)).0 c.if-not-has_ended.false;
+      ended = λ now leads. (c.has_ended.ensures now (leads_stands trial schedules index place now at leads)).0
+          c.if-not-has_ended.false;
     } in
     let ends = c.in_ok-add_end.ensures in
     record {
       shown = record {
         outcome = λ now leads ended. subst (λ (v : List ℕ). AreTold c.take_up.new.table.items v)
-            (c.in_ok-values.ensures now (leads_stands trial schedules index place now at leads)) c.in_ok-take_up.ensures.here;
+            (c.in_ok-values.ensures now (leads_stands trial schedules index place now at leads))
+            c.in_ok-take_up.ensures.here;
         end = λ now leads ended. subst (λ (es : List ℕ). Contains es index) (sym ends) (Contains-push before index);
         stops = λ now leads why asked stopped.
-            c.in_ok-take_up_stops.ensures.found why asked now (leads_stands trial schedules index place now at leads) stopped;
+            c.in_ok-take_up_stops.ensures.found why asked now
+            (leads_stands trial schedules index place now at leads) stopped;
         checks = λ now leads ended check what asked violates.
-            c.in_ok-take_up_checks.ensures.found check what asked now (leads_stands trial schedules index place now at leads) violates;
+            c.in_ok-take_up_checks.ensures.found check what asked now
+            (leads_stands trial schedules index place now at leads) violates;
       };
       ends = λ all. subst (λ (es : List ℕ). All (IsEnd trial schedules) es) (sym ends)
           (All-append (IsEnd trial schedules) before (index ∷ []) all
@@ -92,7 +102,8 @@ returns-clause-shows c = λ schedules tree.
         outcome = λ now leads ended. c.in_ok-take_up.ensures.kept _ (was.outcome now leads ended);
         end = λ now leads ended. subst (λ (es : List ℕ). Contains es other) (sym ends)
             (Contains-append_left before (index ∷ []) other (was.end now leads ended));
-        stops = λ now leads why asked stopped. c.in_ok-take_up_stops.ensures.kept why (was.stops now leads why asked stopped);
+        stops = λ now leads why asked stopped. c.in_ok-take_up_stops.ensures.kept why
+            (was.stops now leads why asked stopped);
         checks = λ now leads ended check what asked violates.
             c.in_ok-take_up_checks.ensures.kept check (was.checks now leads ended check what asked violates);
       };

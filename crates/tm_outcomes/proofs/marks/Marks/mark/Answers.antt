@@ -5,5 +5,6 @@ use Rattle.tm_outcomes.proofs.marks.Marks.mark.Goals as goal
 
 pub returns-in_ok-push : goal.returns-in_ok-push
 returns-in_ok-push c = marks_one c.args.self.now _ c.args.node c.requires
-    (sym (get_or_read c.args.self.now.marked.items c.args.node c.index.result.now c.requires c.index.ensures false) ∙ c.if-not-index.true)
+    (sym (get_or_read c.args.self.now.marked.items c.args.node c.index.result.now c.requires c.index.ensures false)
+    ∙ c.if-not-index.true)
     refl c.in_ok-push.ensures.items

@@ -14,9 +14,11 @@ loop-node-preserved c =
 
 pub returns : goal.returns
 returns c =
-    let items : c.in_ok-marked.marked.items ≡ replicate c.args.nodes false = c.in_ok-marked.ensures.items_if_clones_equal (λ y e. e) in
+    let items : c.in_ok-marked.marked.items ≡ replicate c.args.nodes false =
+    c.in_ok-marked.ensures.items_if_clones_equal (λ y e. e) in
     let long = ap length items ∙ length-replicate c.args.nodes false in
     are_ends c.args.ends.now c.args.nodes _ c.loop-node.marks c.loop-node.node-index c.loop-node-test.false long
     (λ node is. false≢true (sym (ap (λ xs. get_or xs node false) items
-    ∙ get_or-replicate c.args.nodes node false false (let below = marked_below c.in_ok-marked.marked.items node is in omega arith)) ∙ is))
+    ∙ get_or-replicate c.args.nodes node false false
+    (let below = marked_below c.in_ok-marked.marked.items node is in omega arith)) ∙ is))
     c.new-queue.ensures.items c.loop-node.invariant

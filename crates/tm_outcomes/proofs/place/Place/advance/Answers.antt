@@ -9,8 +9,11 @@ returns c =
     let trial = c.args.trial.now in
     let pick = c.args.pick in
     let rested = c.in_ok-come_to_rest.ensures in
-    let one : c.push.new.self.items ≡ pick ∷ [] = c.in_ok-push.ensures.items ∙ ap (λ (s : List Pick). s ++ pick ∷ []) c.new-steps.ensures.items in
-    advances trial c.args.self.now c.step.new.self c.come_to_rest.new.self pick c.come_to_rest.new.steps.items c.requires.pick
+    let one : c.push.new.self.items ≡ pick ∷ [] =
+    c.in_ok-push.ensures.items ∙ ap (λ (s : List Pick). s ++ pick ∷ []) c.new-steps.ensures.items in
+    advances trial c.args.self.now c.step.new.self c.come_to_rest.new.self pick
+    c.come_to_rest.new.steps.items c.requires.pick
     c.step.ensures.goes c.step.ensures.at
-    (subst (λ (s : List Pick). RestsBy trial c.step.new.self c.come_to_rest.new.self s c.come_to_rest.new.steps.items) one rested.rests)
+    (subst (λ (s : List Pick). RestsBy trial c.step.new.self c.come_to_rest.new.self s c.come_to_rest.new.steps.items)
+    one rested.rests)
     rested.place

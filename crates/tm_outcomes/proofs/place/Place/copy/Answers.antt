@@ -43,8 +43,10 @@ returns-clause-place c = λ trial here other.
       place = record { rules = same.rules ∙ here.place.rules; count = same.cores ∙ here.place.count };
       opening = here.opening;
       memory = elim (answered c.copy_lines.result) [
-        | inl copied ↦ subst (λ m. IsSameElsewhere lines m opening) (sym (c.copy_lines.ensures.memory copied)) other.memory
-        | inr stays ↦ subst (λ m. IsSameElsewhere lines m opening) (sym (ap (λ m. m.memory) (c.copy_lines.ensures.none stays))) here.memory
+        | inl copied ↦
+            subst (λ m. IsSameElsewhere lines m opening) (sym (c.copy_lines.ensures.memory copied)) other.memory
+        | inr stays ↦ subst (λ m. IsSameElsewhere lines m opening)
+            (sym (ap (λ m. m.memory) (c.copy_lines.ensures.none stays))) here.memory
       ];
     }
 

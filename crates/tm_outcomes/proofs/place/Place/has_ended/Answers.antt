@@ -11,8 +11,11 @@ returns-then-not-has_stopped c = λ now stands.
     let below = c.loop-core-test.true in (
       λ no. absurd (false≢true no),
       λ ended.
-          let halted = ended core (let e = stands.same_count in let f = c.cores-core-end.ensures.count in omega arith) in
-          let is_stopped = stopped_is (machine_setting machine) now.state.memory (now.state.cores core) (now.doomed core) (view_at machine core) (stands.each core (let f = c.cores-core-end.ensures.count in omega arith)) halted in
+          let halted =
+          ended core (let e = stands.same_count in let f = c.cores-core-end.ensures.count in omega arith) in
+          let is_stopped =
+          stopped_is (machine_setting machine) now.state.memory (now.state.cores core) (now.doomed core)
+          (view_at machine core) (stands.each core (let f = c.cores-core-end.ensures.count in omega arith)) halted in
           absurd (false≢true (sym c.if-not-has_stopped.true ∙ (c.has_stopped.ensures ∙ is_stopped))),
     )
 
@@ -20,8 +23,11 @@ pub returns : goal.returns
 returns c = λ now stands.
     let machine = c.args.self.now.machine in (
       λ _ core below.
-          let within : core < c.loop-core.core = (let e = stands.same_count in let f = c.cores-core-end.ensures.count in let g = c.loop-core-test.false in omega arith) in
-          halted_is (machine_setting machine) now.state.memory (now.state.cores core) (now.doomed core) (view_at machine core)
+          let within : core < c.loop-core.core =
+          (let e = stands.same_count in let f = c.cores-core-end.ensures.count in
+          let g = c.loop-core-test.false in omega arith) in
+          halted_is (machine_setting machine) now.state.memory (now.state.cores core) (now.doomed core)
+          (view_at machine core)
           (stands.each core (let e = stands.same_count in omega arith)) (c.loop-core.invariant core within),
       λ _. refl,
     )

@@ -29,7 +29,8 @@ returns-then-is_condemned c = λ now stands.
     let condemned : is_condemned view.mode ≡ true =
     ap is_condemned (sym c.in-Ok.ensures.shown) ∙ (sym c.is_condemned.ensures ∙ c.if-is_condemned.true) in
     sym (shown trial c.args.self.now c.args.core c.requires.place c.requires.core now stands
-    ∙ ap (λ t. cond t true (cond (is_running view.mode) (touches_nothing (trial_setting trial) now.state.memory view.base) false)) condemned)
+    ∙ ap (λ t. cond t true
+    (cond (is_running view.mode) (touches_nothing (trial_setting trial) now.state.memory view.base) false)) condemned)
 
 pub returns-then-not-is_running : goal.returns-then-not-is_running
 returns-then-not-is_running c = λ now stands.
@@ -40,7 +41,8 @@ returns-then-not-is_running c = λ now stands.
     let running : is_running view.mode ≡ false =
     ap is_running (sym c.in-Ok.ensures.shown) ∙ (sym c.is_running.ensures ∙ c.if-not-is_running.true) in
     sym (shown trial c.args.self.now c.args.core c.requires.place c.requires.core now stands
-    ∙ (ap (λ t. cond t true (cond (is_running view.mode) (touches_nothing (trial_setting trial) now.state.memory view.base) false)) condemned
+    ∙ (ap (λ t. cond t true
+    (cond (is_running view.mode) (touches_nothing (trial_setting trial) now.state.memory view.base) false)) condemned
     ∙ ap (λ t. cond t (touches_nothing (trial_setting trial) now.state.memory view.base) false) running))
 
 pub touches_nothing-requires-clause-running : goal.touches_nothing-requires-clause-running
@@ -57,5 +59,6 @@ returns c = λ now stands.
     ap is_running (sym c.in-Ok.ensures.shown) ∙ (sym c.is_running.ensures ∙ c.if-not-is_running.false) in
     c.touches_nothing.ensures now stands
     ∙ sym (shown trial c.args.self.now c.args.core c.requires.place c.requires.core now stands
-    ∙ (ap (λ t. cond t true (cond (is_running view.mode) (touches_nothing (trial_setting trial) now.state.memory view.base) false)) condemned
+    ∙ (ap (λ t. cond t true
+    (cond (is_running view.mode) (touches_nothing (trial_setting trial) now.state.memory view.base) false)) condemned
     ∙ ap (λ t. cond t (touches_nothing (trial_setting trial) now.state.memory view.base) false) running))

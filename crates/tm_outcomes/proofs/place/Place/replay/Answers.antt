@@ -17,7 +17,8 @@ nodes-init c = record {
     [],
     (
       sym (append-nil c.args.way.now),
-      subst (λ (s : List Pick). IsAhead c.args.trial.now c.reopen.new.self (record { core = 0; count = 0 }) s) (sym (along_none c.args.nodes.now))
+      subst (λ (s : List Pick). IsAhead c.args.trial.now c.reopen.new.self (record { core = 0; count = 0 }) s)
+          (sym (along_none c.args.nodes.now))
           (none_ahead c.args.trial.now c.reopen.new.self 0 [] c.reopen.ensures),
     ),
   );
@@ -26,7 +27,8 @@ nodes-init c = record {
 }
 
 -- what is left ends in this node
-on_way : (count : ℕ) (way left before rest : List ℕ) (index : ℕ) → All (IsOnWay count) way → way ≡ left ++ rest → left ≡ before ++ index ∷ [] →
+on_way : (count : ℕ) (way left before rest : List ℕ) (index : ℕ) → All (IsOnWay count) way → way ≡ left ++ rest
+    → left ≡ before ++ index ∷ [] →
     IsOnWay count index
 on_way count way left before rest index all whole ends =
     All-head (IsOnWay count) index rest
@@ -70,7 +72,8 @@ nodes-preserved c =
         (
           taken.1.0 ∙ (ap (λ (l : List ℕ). l ++ rest) ends ∙ append_assoc before (index ∷ []) rest),
           subst (λ (s : List Pick). IsAhead trial c.take_up_all-ahead.new.self c.take_up_all-ahead.result s)
-              (ap (λ (s : List Pick). steps_along nodes rest ++ s) (c.as_slice.ensures.value ∙ sym steps_are) ∙ sym (along_more nodes index rest))
+              (ap (λ (s : List Pick). steps_along nodes rest ++ s) (c.as_slice.ensures.value ∙ sym steps_are)
+              ∙ sym (along_more nodes index rest))
               (c.take_up_all-ahead.ensures.ahead (steps_along nodes rest) taken.1.1),
         ),
       );

@@ -24,7 +24,8 @@ steps-preserved c =
     let added = c.in_ok-push.ensures.items in
     record {
       place = c.step.ensures.place;
-      rests = by_one trial c.args.self.now c.steps.self c.step.new.self c.args.steps.now.items c.steps.steps.items _ pick
+      rests =
+          by_one trial c.args.self.now c.steps.self c.step.new.self c.args.steps.now.items c.steps.steps.items _ pick
           so_far.rests added
           (rests_once trial c.steps.self c.step.new.self pick is_pick c.step.ensures.goes c.step.ensures.at
           (λ now stands. sym (c.is_unseen.ensures now stands) ∙ c.if-not-is_unseen.false));

@@ -3,7 +3,8 @@ use Rattle.tm_outcomes.proofs.place.Place.some_alone.Goals as goal
 
 pub returns-clause-at : goal.returns-clause-at
 returns-clause-at c = λ schedule at.
-    at_alone c.args.trial.now c.args.self.now (record { machine = c.steps_alone.new.self }) c.args.core c.in-Ok.made c.in-Ok.ensures.steps
+    at_alone c.args.trial.now c.args.self.now (record { machine = c.steps_alone.new.self }) c.args.core c.in-Ok.made
+    c.in-Ok.ensures.steps
     schedule at
 
 pub returns-clause-place : goal.returns-clause-place

@@ -30,6 +30,7 @@ steps-preserved c =
 
 pub returns-clause-at : goal.returns-clause-at
 returns-clause-at c = λ schedule at.
-    let all : c.steps.made ≡ c.args.count = (let few = c.steps.invariant.few in let done = c.steps-test.false in omega arith) in
+    let all : c.steps.made ≡ c.args.count =
+    (let few = c.steps.invariant.few in let done = c.steps-test.false in omega arith) in
     subst (λ (n : ℕ). IsAt c.args.trial.now c.steps.self (schedule ++ replicate n (alone c.args.core))) all
     (c.steps.invariant.at schedule at)

@@ -12,8 +12,10 @@ returns-then-has_stopped_by c = λ now stands.
       λ _. (
         core,
         (let e = stands.same_count in let f = c.cores-core-end.ensures.count in omega arith),
-        stopped_by (machine_setting machine) now.state.memory (now.state.cores core) (now.doomed core) (view_at machine core) c.args.why
-            (stands.each core (let f = c.cores-core-end.ensures.count in omega arith)) (c.has_stopped_by.ensures.0 c.if-has_stopped_by.true),
+        stopped_by (machine_setting machine) now.state.memory (now.state.cores core) (now.doomed core)
+            (view_at machine core) c.args.why
+            (stands.each core (let f = c.cores-core-end.ensures.count in omega arith))
+            (c.has_stopped_by.ensures.0 c.if-has_stopped_by.true),
       ),
       λ _. refl,
     )
@@ -24,8 +26,11 @@ returns c = λ now stands.
       λ no. absurd (false≢true no),
       λ stops.
           let core = stops.0 in
-          let within : core < c.loop-core.core = (let b = stops.1 in let e = stands.same_count in let f = c.cores-core-end.ensures.count in let g = c.loop-core-test.false in omega arith) in
+          let within : core < c.loop-core.core =
+          (let b = stops.1 in let e = stands.same_count in let f = c.cores-core-end.ensures.count in
+          let g = c.loop-core-test.false in omega arith) in
           absurd (c.loop-core.invariant core within
-          (by_stop (machine_setting machine) now.state.memory (now.state.cores core) (now.doomed core) (view_at machine core) c.args.why
+          (by_stop (machine_setting machine) now.state.memory (now.state.cores core) (now.doomed core)
+          (view_at machine core) c.args.why
           (stands.each core (let b = stops.1 in let e = stands.same_count in omega arith)) stops.2)),
     )

@@ -5,7 +5,8 @@ use Rattle.tm_outcomes.proofs.place.Place.take_up.Goals as goal
 
 pub returns-then-is_behind-clause-ahead : goal.returns-then-is_behind-clause-ahead
 returns-then-is_behind-clause-ahead c = λ schedule so_far.
-    one_ahead c.args.trial.now c.args.self.now c.args.ahead c.args.pick (c.is_behind.ensures.alone c.if-is_behind.true) schedule so_far
+    one_ahead c.args.trial.now c.args.self.now c.args.ahead c.args.pick
+    (c.is_behind.ensures.alone c.if-is_behind.true) schedule so_far
 
 pub returns-then-is_behind-clause-core : goal.returns-then-is_behind-clause-core
 returns-then-is_behind-clause-core c =
@@ -14,11 +15,14 @@ returns-then-is_behind-clause-core c =
 
 pub returns-then-is_alone-clause-ahead : goal.returns-then-is_alone-clause-ahead
 returns-then-is_alone-clause-ahead c = λ schedule so_far.
-    first_ahead c.args.trial.now c.steps_alone.new.self c.args.pick.core c.args.pick (c.is_alone.ensures c.if-is_alone.true) schedule
-    (all_made c.args.trial.now c.args.self.now c.steps_alone.new.self c.args.ahead schedule so_far c.steps_alone.ensures.at)
+    first_ahead c.args.trial.now c.steps_alone.new.self c.args.pick.core c.args.pick
+    (c.is_alone.ensures c.if-is_alone.true) schedule
+    (all_made c.args.trial.now c.args.self.now c.steps_alone.new.self c.args.ahead schedule so_far
+    c.steps_alone.ensures.at)
 
 pub returns-clause-ahead : goal.returns-clause-ahead
 returns-clause-ahead c = λ schedule so_far.
     none_ahead c.args.trial.now c.step.new.self c.args.pick.core (schedule ++ c.args.pick ∷ [])
     (c.step.ensures.at schedule
-    (all_made c.args.trial.now c.args.self.now c.steps_alone.new.self c.args.ahead schedule so_far c.steps_alone.ensures.at))
+    (all_made c.args.trial.now c.args.self.now c.steps_alone.new.self c.args.ahead schedule so_far
+    c.steps_alone.ensures.at))

@@ -21,7 +21,8 @@ returns-then-not-loads_nothing c = λ now stands.
     let loads : are_none (setting.load_of base) ≡ false =
     subst (λ (regs : Regs). are_none (setting.load_of regs) ≡ false) c.in-Ok.ensures.shown
     (sym (c.loads_nothing.ensures trial.limits.read_lines trial.limits.write_lines) ∙ c.if-not-loads_nothing.true) in
-    sym (ap (λ t. t && are_none (addresses_stored_at setting now.state.memory (Closed base) (owed_outcome setting now.state.memory (Closed base) None))) loads)
+    sym (ap (λ t. t && are_none (addresses_stored_at setting now.state.memory (Closed base)
+    (owed_outcome setting now.state.memory (Closed base) None))) loads)
 
 pub returns : goal.returns
 returns c = λ now stands.
@@ -34,16 +35,22 @@ returns c = λ now stands.
     subst (λ (regs : Regs). are_none (setting.load_of regs) ≡ true) c.in-Ok.ensures.shown
     (sym (c.loads_nothing.ensures trial.limits.read_lines trial.limits.write_lines) ∙ c.if-not-loads_nothing.false) in
     let closed = closed_shown setting now.state.memory (now.state.cores core) (now.doomed core) (view_at machine core)
-    (shows machine setting now c.requires.place.rules stands core (let count = c.requires.place.count in let is_core = c.requires.core in omega arith))
+    (shows machine setting now c.requires.place.rules stands core
+    (let count = c.requires.place.count in let is_core = c.requires.core in omega arith))
     c.requires.running in
     let told : IsReachTold setting now.state.memory (now.state.cores core) (now.doomed core) c.in-Ok-reach.reach =
-    subst (λ (s : Setting). IsReachTold s now.state.memory (now.state.cores core) (now.doomed core) c.in-Ok-reach.reach) c.requires.place.rules
+    subst (λ (s : Setting). IsReachTold s now.state.memory (now.state.cores core) (now.doomed core) c.in-Ok-reach.reach)
+    c.requires.place.rules
     (c.in-Ok-reach.ensures.told now.state now.doomed stands) in
     let stores : loaded_addresses c.in-Ok-reach.reach.store
-    ≡ addresses_stored_at setting now.state.memory (Closed base) (owed_outcome setting now.state.memory (Closed base) None) =
+    ≡ addresses_stored_at setting now.state.memory (Closed base)
+    (owed_outcome setting now.state.memory (Closed base) None) =
     told.stores
-    ∙ (ap (λ (x : Core). addresses_stored_at setting now.state.memory x (owed_outcome setting now.state.memory x (now.doomed core))) closed.0
-    ∙ ap (λ (d : Option ℕ). addresses_stored_at setting now.state.memory (Closed base) (owed_outcome setting now.state.memory (Closed base) d)) closed.1) in
+    ∙ (ap (λ (x : Core). addresses_stored_at setting now.state.memory x
+    (owed_outcome setting now.state.memory x (now.doomed core))) closed.0
+    ∙ ap (λ (d : Option ℕ). addresses_stored_at setting now.state.memory (Closed base)
+    (owed_outcome setting now.state.memory (Closed base) d)) closed.1) in
     c.is_absent.ensures
     ∙ (ap are_none stores
-    ∙ sym (ap (λ t. t && are_none (addresses_stored_at setting now.state.memory (Closed base) (owed_outcome setting now.state.memory (Closed base) None))) loads))
+    ∙ sym (ap (λ t. t && are_none (addresses_stored_at setting now.state.memory (Closed base)
+    (owed_outcome setting now.state.memory (Closed base) None))) loads))

@@ -16,4 +16,5 @@ loop-item-preserved c = λ now stands.
 
 pub returns : goal.returns
 returns c = λ now stands.
-    c.loop-item.invariant now stands ∙ ap (map (value_of now.state)) (take_all c.loop-item.item-index c.args.trial.now.items.now c.loop-item-test.false)
+    c.loop-item.invariant now stands
+    ∙ ap (map (value_of now.state)) (take_all c.loop-item.item-index c.args.trial.now.items.now c.loop-item-test.false)

@@ -6,4 +6,5 @@ use Rattle.tm_outcomes.proofs.place.Place.values.Given as goal
 
 abbrev pub invariant-loop-item : goal.invariant-loop-item
 invariant-loop-item l =
-    (now : Situation) → StandsFor l.self.machine now.state now.doomed → l.values.items ≡ map (value_of now.state) (take l.item-index l.trial.items.now)
+    (now : Situation) → StandsFor l.self.machine now.state now.doomed
+    → l.values.items ≡ map (value_of now.state) (take l.item-index l.trial.items.now)

@@ -10,11 +10,15 @@ pub loop-core-init : goal.loop-core-init
 loop-core-init c =
     let shown = c.in_ok-show.ensures in
     record {
-      search = begins c.args.trial.now c.args.most c.args.index c.args.self.now _ refl refl c.requires.within shown.found
-          (λ schedules tree. shown.shows schedules (subst (λ (ns : List Node). IsTree c.args.trial.now ns schedules) (sym c.as_slice.ensures.value) tree))
+      search =
+          begins c.args.trial.now c.args.most c.args.index c.args.self.now _ refl refl c.requires.within shown.found
+          (λ schedules tree. shown.shows schedules
+          (subst (λ (ns : List Node). IsTree c.args.trial.now ns schedules) (sym c.as_slice.ensures.value) tree))
           c.requires.done;
-      bench = subst (λ (ns : List Node). IsBenchOf c.args.trial.now ns c.show.new.bench) c.as_slice.ensures.value shown.bench;
-      kept = kept_same c.args.trial.now c.args.self.now (record c.args.self.now { found = c.show.new.self }) c.args.bench.now.noted
+      bench = subst (λ (ns : List Node). IsBenchOf c.args.trial.now ns c.show.new.bench)
+          c.as_slice.ensures.value shown.bench;
+      kept = kept_same c.args.trial.now c.args.self.now (record c.args.self.now { found = c.show.new.self })
+          c.args.bench.now.noted
           c.show.new.bench.noted refl refl shown.noted c.requires.kept;
     }
 
@@ -36,4 +40,5 @@ returns-clause-goes_on c = λ _.
 
 pub show-requires-clause-bench : goal.show-requires-clause-bench
 show-requires-clause-bench c =
-    subst (λ (ns : List Node). IsBenchOf c.args.trial.now ns c.args.bench.now) (sym c.as_slice.ensures.value) c.requires.bench
+    subst (λ (ns : List Node). IsBenchOf c.args.trial.now ns c.args.bench.now) (sym c.as_slice.ensures.value)
+    c.requires.bench

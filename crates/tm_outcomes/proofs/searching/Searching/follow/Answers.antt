@@ -13,30 +13,35 @@ use Rattle.tm_outcomes.proofs.searching.Searching.follow.Goals as goal
 
 pub come_to-requires-clause-bench : goal.come_to-requires-clause-bench
 come_to-requires-clause-bench c =
-    subst (λ (ns : List Node). IsBenchOf c.args.trial.now ns c.args.bench.now) (sym c.as_slice.ensures.value) c.requires.bench
+    subst (λ (ns : List Node). IsBenchOf c.args.trial.now ns c.args.bench.now) (sym c.as_slice.ensures.value)
+    c.requires.bench
 
 pub has_stopped-requires : goal.has_stopped-requires
 has_stopped-requires c =
     let at : IsAt c.args.trial.now c.come_to.new.self.start (schedule_at c.requires.tree.0 c.args.index) =
     c.in_ok-come_to.ensures.start c.requires.tree.0
-    (subst (λ (ns : List Node). IsTree c.args.trial.now ns c.requires.tree.0) (sym c.as_slice.ensures.value) c.requires.tree.1) in
+    (subst (λ (ns : List Node). IsTree c.args.trial.now ns c.requires.tree.0) (sym c.as_slice.ensures.value)
+    c.requires.tree.1) in
     let count = at.count in
     let is_core = c.requires.is_pick.is_core in
     omega arith
 
 pub set_out-requires-clause-bench : goal.set_out-requires-clause-bench
 set_out-requires-clause-bench c =
-    subst (λ (ns : List Node). IsBenchOf c.args.trial.now ns c.come_to.new.self) (c.as_slice.ensures.value ∙ sym c.as_slice-2.ensures.value)
+    subst (λ (ns : List Node). IsBenchOf c.args.trial.now ns c.come_to.new.self)
+    (c.as_slice.ensures.value ∙ sym c.as_slice-2.ensures.value)
     c.in_ok-come_to.ensures.bench
 
 pub set_out-requires-clause-start : goal.set_out-requires-clause-start
 set_out-requires-clause-start c = λ schedules tree.
     c.in_ok-come_to.ensures.start schedules
-    (subst (λ (ns : List Node). IsTree c.args.trial.now ns schedules) (c.as_slice-2.ensures.value ∙ sym c.as_slice.ensures.value) tree)
+    (subst (λ (ns : List Node). IsTree c.args.trial.now ns schedules)
+    (c.as_slice-2.ensures.value ∙ sym c.as_slice.ensures.value) tree)
 
 pub follow_here-requires-clause-bench : goal.follow_here-requires-clause-bench
 follow_here-requires-clause-bench c =
-    subst (λ (ns : List Node). IsBenchOf c.args.trial.now ns c.set_out.new.self) c.as_slice-2.ensures.value c.in_ok-set_out.ensures.bench
+    subst (λ (ns : List Node). IsBenchOf c.args.trial.now ns c.set_out.new.self) c.as_slice-2.ensures.value
+    c.in_ok-set_out.ensures.bench
 
 pub follow_here-requires-clause-here : goal.follow_here-requires-clause-here
 follow_here-requires-clause-here c = λ schedules tree.
@@ -48,7 +53,8 @@ returns-then-has_stopped-clause-followed c = λ _.
     let trial = c.args.trial.now in
     let index = c.args.index in
     let pick = c.args.pick in
-    to_known trial c.args.most index index pick c.args.self.now c.join.new.self (ap (λ v. v.items) c.in_ok-join.ensures.nodes)
+    to_known trial c.args.most index index pick c.args.self.now c.join.new.self
+    (ap (λ v. v.items) c.in_ok-join.ensures.nodes)
     c.in_ok-join.ensures.links c.requires.few c.requires.within c.requires.within c.requires.is_pick
     (λ schedules tree.
     leads_back trial schedules index c.come_to.new.self.start pick c.requires.is_pick.is_core

@@ -21,7 +21,8 @@ pub follow_each-requires-clause-opened : goal.follow_each-requires-clause-opened
 follow_each-requires-clause-opened c =
     let trial = c.args.trial.now in
     let core = c.args.core in
-    holds_still trial c.args.most c.args.index core (λ (s : List Pick). IsOpenBehind trial s core) c.args.self.now c.follow.new.self
+    holds_still trial c.args.most c.args.index core (λ (s : List Pick). IsOpenBehind trial s core) c.args.self.now
+    c.follow.new.self
     (IsThis None) (c.in_ok-followed.ensures.followed c.in-GoesOn.is) c.requires.tree c.requires.within
     (c.in_ok-followed.ensures.opened (is_so c.in_ok-followed.followed.was_open c.if-not-followed.false))
 
@@ -33,7 +34,8 @@ pub returns-then-not-followed-clause-followed : goal.returns-then-not-followed-c
 returns-then-not-followed-clause-followed c = λ _.
     none_for_each c.args.trial.now c.args.most c.args.index c.args.core c.args.self.now
     c.follow.new.self c.args.events.now c.requires.within
-    (c.in_ok-followed.ensures.untouched (not_so c.in_ok-followed.followed.was_open c.if-not-followed.true)) (c.in_ok-followed.ensures.followed c.in-GoesOn.is)
+    (c.in_ok-followed.ensures.untouched (not_so c.in_ok-followed.followed.was_open c.if-not-followed.true))
+    (c.in_ok-followed.ensures.followed c.in-GoesOn.is)
 
 pub returns-clause-followed : goal.returns-clause-followed
 returns-clause-followed c =

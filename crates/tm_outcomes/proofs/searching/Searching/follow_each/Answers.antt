@@ -45,7 +45,8 @@ loop-event-preserved c =
       tree = has_tree trial most index core middle after (IsThis _) next so_far.tree;
       bench = c.in_ok-followed.ensures.bench;
       kept = c.in_ok-followed.ensures.kept;
-      opened = holds_still trial most index core (λ (s : List Pick). IsOpenBehind trial s core) middle after (IsThis _) next
+      opened =
+          holds_still trial most index core (λ (s : List Pick). IsOpenBehind trial s core) middle after (IsThis _) next
           so_far.tree so_far.within so_far.opened;
       found = c.in_ok-followed.ensures.found ∙ so_far.found;
       followed = next_of trial most index core c.args.self.now middle after c.args.events.now

@@ -1,4 +1,5 @@
-use Rattle.std.proofs.Common.{◌≡◌, ◌<◌, ◌+◌, ℕ, List, Option, [], ◌∷◌, ◌++◌, length, refl, sym, ap, ◌∙◌, subst, arith, length-append}
+use Rattle.std.proofs.Common.{◌≡◌, ◌<◌, ◌+◌, ℕ, List, Option, [], ◌∷◌, ◌++◌, length, refl, sym, ap, ◌∙◌, subst, arith}
+use Rattle.std.proofs.Common.{length-append}
 use Rattle.std.specs.Prelude.{IfSome}
 use Rattle.tm_core.specs.Theorem.{machine_setting}
 use Rattle.tm_model.specs.declared.outcome.Pick.{Pick}
@@ -27,18 +28,22 @@ returns-in-Some-clause-followed c = λ _.
     let pick = c.args.pick in
     let old = c.args.self.now in
     let nodes = old.nodes.items in
-    let found = subst (λ (o : Option ℕ). IfSome o (IsFound trial c.as_slice.result.now c.advance.new.self)) c.in-Some.is c.in_ok-known.ensures.ok in
+    let found = subst (λ (o : Option ℕ). IfSome o (IsFound trial c.as_slice.result.now c.advance.new.self)) c.in-Some.is
+    c.in_ok-known.ensures.ok in
     let there : c.in-Some.known < length nodes =
     (let f = found.within in let e = ap (λ (ns : List Node). length ns) c.as_slice.ensures.value in omega arith) in
-    to_known trial c.args.most index c.in-Some.known pick old c.join.new.self (ap (λ v. v.items) c.in_ok-join.ensures.nodes)
+    to_known trial c.args.most index c.in-Some.known pick old c.join.new.self
+    (ap (λ v. v.items) c.in_ok-join.ensures.nodes)
     c.in_ok-join.ensures.links c.requires.few c.requires.within there c.requires.is_pick
     (λ schedules tree.
     let before = c.args.bench.now.here in
     let after = c.advance.new.self in
     let at : IsAt trial before (schedule_at schedules index) =
     c.requires.here schedules tree in
-    let other = found.alike schedules (subst (λ (ns : List Node). IsTree trial ns schedules) (sym c.as_slice.ensures.value) tree) in
-    follows trial schedules index pick c.in_ok-steps.steps.items before after other.0 c.in-Some.known at c.in_ok-steps.ensures
+    let other =
+    found.alike schedules (subst (λ (ns : List Node). IsTree trial ns schedules) (sym c.as_slice.ensures.value) tree) in
+    follows trial schedules index pick c.in_ok-steps.steps.items before after other.0 c.in-Some.known at
+    c.in_ok-steps.ensures
     (let t = tree.counted in omega arith) other.1.0
     (λ now stands. alike_stands trial after other.0 (schedule_at schedules index ++ c.in_ok-steps.steps.items) _ now
     (c.in_ok-steps.ensures.at (schedule_at schedules index) at) other.1.0 other.1.1 stands))
@@ -49,14 +54,21 @@ returns-clause-followed c = λ _.
     let index = c.args.index in
     let pick = c.args.pick in
     let old = c.args.self.now in
-    let node : Node = record { parent = index; steps = c.in_ok-steps.steps; digest = c.digest-digest.result; older = c.copied-old.result } in
+    let node : Node = record {
+      parent = index;
+      steps = c.in_ok-steps.steps;
+      digest = c.digest-digest.result;
+      older = c.copied-old.result;
+    } in
     let joined = c.in_ok-join-2.ensures in
     let place = c.args.bench.now.here in
-    to_new trial c.args.most index pick c.in_ok-steps.steps.items node old c.add.new.self refl refl c.in_ok-steps.ensures.are_picks
+    to_new trial c.args.most index pick c.in_ok-steps.steps.items node old c.add.new.self refl refl
+    c.in_ok-steps.ensures.are_picks
     (c.in_ok-add.ensures.nodes ∙ ap (λ v. v.items ++ node ∷ []) joined.nodes)
     (ap (λ v. v.items) c.in_ok-add.ensures.links ∙ joined.links
     ∙ ap (λ (n : ℕ). old.links.items ++ record { from = index; to = n } ∷ [])
-    (let e : c.len-number.result ≡ length old.nodes.items = omega arith in e)) (omega arith) c.requires.within c.requires.is_pick
+    (let e : c.len-number.result ≡ length old.nodes.items = omega arith in e)) (omega arith) c.requires.within
+    c.requires.is_pick
     (λ schedules tree.
     let at : IsAt trial place (schedule_at schedules index) =
     c.requires.here schedules tree in
@@ -64,7 +76,8 @@ returns-clause-followed c = λ _.
       after.now,
       after.is_run,
       sym after.stands.same_count ∙ after.count,
-      sparing_advanced trial (schedule_at schedules index) place c.advance.new.self pick c.in_ok-steps.steps.items at c.in_ok-steps.ensures
+      sparing_advanced trial (schedule_at schedules index) place c.advance.new.self pick c.in_ok-steps.steps.items at
+          c.in_ok-steps.ensures
           (tree.runs index c.requires.within).3 (c.requires.needed schedules tree),
     ))
     (λ schedules tree.
@@ -75,11 +88,13 @@ returns-clause-followed c = λ _.
     let grown : List (List Pick) = schedules ++ added ∷ [] in
     let counted = tree.counted in
     let longer : length grown ≡ length schedules + 1 = length-append schedules (added ∷ []) in
-    let here : schedule_at grown index ≡ schedule_at schedules index = schedule_old schedules (added ∷ []) index (let w = c.requires.within in omega arith) in
+    let here : schedule_at grown index ≡ schedule_at schedules index =
+    schedule_old schedules (added ∷ []) index (let w = c.requires.within in omega arith) in
     let new : schedule_at grown (length schedules) ≡ added = schedule_new schedules added (length schedules) refl in
     follows trial grown index pick c.in_ok-steps.steps.items place after after (length schedules)
     (subst (λ (s : List Pick). IsAt trial place s) (sym here) at) c.in_ok-steps.ensures (omega arith)
-    (subst (λ (s : List Pick). IsAt trial after s) (sym new) (c.in_ok-steps.ensures.at (schedule_at schedules index) at))
+    (subst (λ (s : List Pick). IsAt trial after s) (sym new)
+    (c.in_ok-steps.ensures.at (schedule_at schedules index) at))
     (λ now stands. stands))
 
 pub is_open-was_open-requires : goal.is_open-was_open-requires
@@ -117,17 +132,20 @@ returns-clause-untouched c = λ closed schedules tree.
 -- and where it was in one
 pub returns-in-Some-clause-opened : goal.returns-in-Some-clause-opened
 returns-in-Some-clause-opened c = λ opened schedules tree.
-    opened_at c.args.trial.now (schedule_at schedules c.args.index) c.args.bench.now.here c.args.pick.core c.requires.is_pick.is_core
+    opened_at c.args.trial.now (schedule_at schedules c.args.index) c.args.bench.now.here c.args.pick.core
+    c.requires.is_pick.is_core
     (c.requires.here schedules tree) (sym c.is_open-was_open.ensures ∙ opened)
 
 pub returns-then-len-most-clause-opened : goal.returns-then-len-most-clause-opened
 returns-then-len-most-clause-opened c = λ opened schedules tree.
-    opened_at c.args.trial.now (schedule_at schedules c.args.index) c.args.bench.now.here c.args.pick.core c.requires.is_pick.is_core
+    opened_at c.args.trial.now (schedule_at schedules c.args.index) c.args.bench.now.here c.args.pick.core
+    c.requires.is_pick.is_core
     (c.requires.here schedules tree) (sym c.is_open-was_open.ensures ∙ opened)
 
 pub returns-clause-opened : goal.returns-clause-opened
 returns-clause-opened c = λ opened schedules tree.
-    opened_at c.args.trial.now (schedule_at schedules c.args.index) c.args.bench.now.here c.args.pick.core c.requires.is_pick.is_core
+    opened_at c.args.trial.now (schedule_at schedules c.args.index) c.args.bench.now.here c.args.pick.core
+    c.requires.is_pick.is_core
     (c.requires.here schedules tree) (sym c.is_open-was_open.ensures ∙ opened)
 
 pub advance-requires-clause-place : goal.advance-requires-clause-place
@@ -152,14 +170,18 @@ find-requires-clause-bench c =
     let schedule : List Pick = schedule_at written.schedules c.args.index in
     let at : IsAt trial bench.here schedule = c.requires.here written.schedules written.tree in
     let within : IsWithin trial noted.lines.items (schedule ++ c.in_ok-steps.steps.items) =
-    within_advanced trial noted.lines.items schedule bench.here c.advance.new.self c.args.pick c.in_ok-steps.steps.items at c.in_ok-steps.ensures
+    within_advanced trial noted.lines.items schedule bench.here c.advance.new.self c.args.pick c.in_ok-steps.steps.items
+    at c.in_ok-steps.ensures
     (within_more trial bench.noted.lines.items noted.lines.items schedule c.in_ok-note.ensures.kept
     (written.within c.args.index c.requires.within)) c.in_ok-note.ensures.noted in
     let here : IsPlaceIn trial noted c.advance.new.self =
     place_at trial noted c.advance.new.self (schedule ++ c.in_ok-steps.steps.items)
-    (ap (λ v. v.items) c.in_ok-note.ensures.opening ∙ written.opening) c.in_ok-steps.ensures.is_place (c.in_ok-steps.ensures.at schedule at) within in
-    subst (λ (ns : List Node). IsBenchOf trial ns (record bench { here = c.advance.new.self; noted = noted })) (sym c.as_slice.ensures.value)
-    (bench_advanced trial c.args.self.now.nodes.items bench c.advance.new.self noted c.in_ok-note.ensures.opening c.in_ok-note.ensures.kept
+    (ap (λ v. v.items) c.in_ok-note.ensures.opening ∙ written.opening) c.in_ok-steps.ensures.is_place
+    (c.in_ok-steps.ensures.at schedule at) within in
+    subst (λ (ns : List Node). IsBenchOf trial ns (record bench { here = c.advance.new.self; noted = noted }))
+    (sym c.as_slice.ensures.value)
+    (bench_advanced trial c.args.self.now.nodes.items bench c.advance.new.self noted c.in_ok-note.ensures.opening
+    c.in_ok-note.ensures.kept
     here c.requires.bench)
 
 pub returns-in-Some-clause-bench : goal.returns-in-Some-clause-bench
@@ -169,7 +191,8 @@ returns-in-Some-clause-bench c =
 
 pub returns-then-len-most-clause-bench : goal.returns-then-len-most-clause-bench
 returns-then-len-most-clause-bench c =
-    subst (λ (ns : List Node). IsBenchOf c.args.trial.now ns c.find.new.self) c.as_slice.ensures.value c.in_ok-known.ensures.bench
+    subst (λ (ns : List Node). IsBenchOf c.args.trial.now ns c.find.new.self) c.as_slice.ensures.value
+    c.in_ok-known.ensures.bench
 
 pub returns-clause-bench : goal.returns-clause-bench
 returns-clause-bench c =
@@ -195,19 +218,24 @@ returns-clause-bench c =
       after.now,
       after.is_run,
       sym after.stands.same_count ∙ after.count,
-      sparing_advanced trial schedule before c.advance.new.self c.args.pick c.in_ok-steps.steps.items at c.in_ok-steps.ensures
-          (is.written.tree.runs c.args.index c.requires.within).3 (c.requires.needed is.written.schedules is.written.tree),
+      sparing_advanced trial schedule before c.advance.new.self c.args.pick c.in_ok-steps.steps.items at
+          c.in_ok-steps.ensures
+          (is.written.tree.runs c.args.index c.requires.within).3
+          (c.requires.needed is.written.schedules is.written.tree),
     )
-    (within_advanced trial bench.noted.lines.items schedule before c.advance.new.self c.args.pick c.in_ok-steps.steps.items at c.in_ok-steps.ensures
+    (within_advanced trial bench.noted.lines.items schedule before c.advance.new.self c.args.pick
+    c.in_ok-steps.steps.items at c.in_ok-steps.ensures
     (is.written.within c.args.index c.requires.within)
-    (λ now stands. subst (λ (w : Written). StoresOn (machine_setting before.machine) w.lines.items now c.args.pick.core) (sym noted)
+    (λ now stands. subst (λ (w : Written). StoresOn (machine_setting before.machine) w.lines.items now c.args.pick.core)
+    (sym noted)
     (c.in_ok-note.ensures.noted now stands)))
 
 -- ---- nodes that are pairwise different
 
 -- the nodes with the lines that were noted
 noted_apart : (trial : Trial) (nodes : List Node) (bench : Bench) (noted : Written) → IsBenchOf trial nodes bench →
-    AreApart trial nodes bench.noted → noted.opening ≡ bench.noted.opening → HasMore bench.noted.lines.items noted.lines.items →
+    AreApart trial nodes bench.noted → noted.opening ≡ bench.noted.opening
+    → HasMore bench.noted.lines.items noted.lines.items →
     AreApart trial nodes noted
 noted_apart trial nodes bench noted is apart opening grown =
     apart_noted trial nodes bench.noted noted opening grown is.written apart
@@ -238,7 +266,8 @@ returns-in-Some-clause-kept c =
     kept_same trial c.args.self.now c.join.new.self noted c.find.new.self.noted c.in_ok-join.ensures.nodes
     c.in_ok-join.ensures.newest c.in_ok-known.ensures.noted
     (record {
-      apart = noted_apart trial c.args.self.now.nodes.items c.args.bench.now noted c.requires.bench c.requires.kept.apart
+      apart =
+          noted_apart trial c.args.self.now.nodes.items c.args.bench.now noted c.requires.bench c.requires.kept.apart
           c.in_ok-note.ensures.opening c.in_ok-note.ensures.grown;
       newest = c.requires.kept.newest;
     })
@@ -249,7 +278,8 @@ returns-then-len-most-clause-kept c =
     let noted = c.note.new.self in
     kept_same trial c.args.self.now c.args.self.now noted c.find.new.self.noted refl refl c.in_ok-known.ensures.noted
     (record {
-      apart = noted_apart trial c.args.self.now.nodes.items c.args.bench.now noted c.requires.bench c.requires.kept.apart
+      apart =
+          noted_apart trial c.args.self.now.nodes.items c.args.bench.now noted c.requires.bench c.requires.kept.apart
           c.in_ok-note.ensures.opening c.in_ok-note.ensures.grown;
       newest = c.requires.kept.newest;
     })
@@ -265,7 +295,8 @@ returns-clause-kept c =
     let added = c.add.new.self in
     let nodes : List Node = old.nodes.items in
     let digest = c.digest-digest.result in
-    let node : Node = record { parent = c.args.index; steps = c.in_ok-steps.steps; digest = digest; older = c.copied-old.result } in
+    let node : Node =
+    record { parent = c.args.index; steps = c.in_ok-steps.steps; digest = digest; older = c.copied-old.result } in
     let schedules = c.requires.tree.0 in
     let tree = c.requires.tree.1 in
     let schedule : List Pick = schedule_at schedules c.args.index in
@@ -285,9 +316,11 @@ returns-clause-kept c =
             sparing_advanced trial schedule before place c.args.pick c.in_ok-steps.steps.items at c.in_ok-steps.ensures
                 (tree.runs c.args.index c.requires.within).3 (c.requires.needed schedules tree),
           ) after c.digest-digest.ensures
-          (subst (λ (o : Option ℕ). IsNewest nodes digest (length nodes) o) (sym (c.copied-old.ensures ∙ c.get.ensures.value))
+          (subst (λ (o : Option ℕ). IsNewest nodes digest (length nodes) o)
+          (sym (c.copied-old.ensures ∙ c.get.ensures.value))
           (c.requires.kept.newest digest)) others
-          (noted_apart trial nodes c.args.bench.now noted c.requires.bench c.requires.kept.apart c.in_ok-note.ensures.opening
+          (noted_apart trial nodes c.args.bench.now noted c.requires.bench c.requires.kept.apart
+          c.in_ok-note.ensures.opening
           c.in_ok-note.ensures.grown);
       newest = newest_added joined added node c.in_ok-add.ensures.nodes c.in_ok-add.ensures.newest
           (newest_same old joined c.in_ok-join-2.ensures.nodes c.in_ok-join-2.ensures.newest c.requires.kept.newest);

@@ -20,19 +20,26 @@ use Rattle.tm_outcomes.proofs.searching.Searching.opening.Goals as goal
 pub returns-clause-done : goal.returns-clause-done
 returns-clause-done c = λ trial.
     let node : Node = record { parent = 0; steps = c.new-6.result; digest = c.args.digest; older = None } in
-    let nodes : c.add.new.self.nodes.items ≡ node ∷ [] = c.in_ok-add.ensures.nodes ∙ ap (λ (ns : List Node). ns ++ node ∷ []) c.new.ensures.items in
+    let nodes : c.add.new.self.nodes.items ≡ node ∷ [] =
+    c.in_ok-add.ensures.nodes ∙ ap (λ (ns : List Node). ns ++ node ∷ []) c.new.ensures.items in
     let links : c.add.new.self.links.items ≡ [] = ap (λ v. v.items) c.in_ok-add.ensures.links ∙ c.new-3.ensures.items in
     let found = c.in_ok-add.ensures.found in
-    let outcomes : c.add.new.self.found.outcomes.items ≡ [] = ap (λ (f : Findings). f.outcomes.items) found ∙ c.new-5.ensures.outcomes in
-    let ends : c.add.new.self.found.ends.items ≡ [] = ap (λ (f : Findings). f.ends.items) found ∙ c.new-5.ensures.ends in
-    let stops : c.add.new.self.found.stops.items ≡ [] = ap (λ (f : Findings). f.stops.items) found ∙ c.new-5.ensures.stops in
-    let violations : c.add.new.self.found.violations.items ≡ [] = ap (λ (f : Findings). f.violations.items) found ∙ c.new-5.ensures.violations in (
+    let outcomes : c.add.new.self.found.outcomes.items ≡ [] =
+    ap (λ (f : Findings). f.outcomes.items) found ∙ c.new-5.ensures.outcomes in
+    let ends : c.add.new.self.found.ends.items ≡ [] =
+    ap (λ (f : Findings). f.ends.items) found ∙ c.new-5.ensures.ends in
+    let stops : c.add.new.self.found.stops.items ≡ [] =
+    ap (λ (f : Findings). f.stops.items) found ∙ c.new-5.ensures.stops in
+    let violations : c.add.new.self.found.violations.items ≡ [] =
+    ap (λ (f : Findings). f.violations.items) found ∙ c.new-5.ensures.violations in (
       [] ∷ [],
       record {
         tree = subst (λ (ns : List Node). IsTree trial ns ([] ∷ [])) (sym nodes) (first_tree trial node);
-        steps = subst (λ (ls : List Link). All (IsStep trial ([] ∷ [])) ls) (sym links) (All-nil (IsStep trial ([] ∷ [])));
+        steps =
+            subst (λ (ls : List Link). All (IsStep trial ([] ∷ [])) ls) (sym links) (All-nil (IsStep trial ([] ∷ [])));
         ends = subst (λ (es : List ℕ). All (IsEnd trial ([] ∷ [])) es) (sym ends) (All-nil (IsEnd trial ([] ∷ [])));
-        explored = record { followed = λ index below. absurd (omega arith); shown = λ index below. absurd (omega arith) };
+        explored =
+            record { followed = λ index below. absurd (omega arith); shown = λ index below. absurd (omega arith) };
         found = record {
           told = subst (λ (os : List Told). All (IsTold trial) os) (sym outcomes) (All-nil (IsTold trial));
           once = subst (λ (os : List Told). AreDistinct os) (sym outcomes) tt;

@@ -34,5 +34,6 @@ returns-clause-all c = λ address among.
 
 pub returns-clause-grown : goal.returns-clause-grown
 returns-clause-grown c =
-    more_then c.args.self.now.lines.items c.add.new.self.lines.items c.add-2.new.self.lines.items c.in_ok-add.ensures.grown
+    more_then c.args.self.now.lines.items c.add.new.self.lines.items c.add-2.new.self.lines.items
+    c.in_ok-add.ensures.grown
     c.in_ok-add-2.ensures.grown

@@ -6,7 +6,12 @@ use Rattle.tm_outcomes.proofs.Digests.{more_then, no_more}
 use Rattle.tm_outcomes.proofs.written.Written.add_all.Goals as goal
 
 pub loop-line-init : goal.loop-line-init
-loop-line-init c = record { opening = refl; kept = λ line among. among; grown = no_more c.args.self.now.lines.items; all = λ line (k, below, is). absurd (omega arith) }
+loop-line-init c = record {
+  opening = refl;
+  kept = λ line among. among;
+  grown = no_more c.args.self.now.lines.items;
+  all = λ line (k, below, is). absurd (omega arith);
+}
 
 pub loop-line-preserved : goal.loop-line-preserved
 loop-line-preserved c =
@@ -29,4 +34,5 @@ loop-line-preserved c =
 pub returns-clause-all : goal.returns-clause-all
 returns-clause-all c = λ line among.
     c.loop-line.invariant.all line
-    (subst (λ (xs : List ℕ). Contains xs line) (sym (take_all c.loop-line.line-index c.args.lines.now c.loop-line-test.false)) among)
+    (subst (λ (xs : List ℕ). Contains xs line)
+    (sym (take_all c.loop-line.line-index c.args.lines.now c.loop-line-test.false)) among)

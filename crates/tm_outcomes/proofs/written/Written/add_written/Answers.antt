@@ -19,7 +19,8 @@ returns-clause-noted c = λ now stands event next e.
     let same : IsSameElsewhere lines step.made.0 memory =
     open_noted event setting memory (now.state.cores core) (now.doomed core) (view_at machine core) lines
     (stands.each core c.requires.core) c.requires.open
-    (ap (λ (xs : List ℕ). set.from_list {R = nat_cmp} xs) c.as_slice.ensures.value ∙ c.in-Ok-sets.ensures.shown) step.made step.is_made in
+    (ap (λ (xs : List ℕ). set.from_list {R = nat_cmp} xs) c.as_slice.ensures.value ∙ c.in-Ok-sets.ensures.shown)
+    step.made step.is_made in
     subst (λ m. IsSameElsewhere after m memory) (sym step.memory)
     (on_more lines after step.made.0 memory c.in_ok-add_all.ensures.all same)
 
@@ -34,6 +35,7 @@ returns-then-counts-eq0-clause-noted c = λ now stands event next e.
     let none : set.len (view_at machine core).writes ≡ 0 = omega (arith, c.in-Ok.ensures.writes) in
     let same : IsSameElsewhere [] step.made.0 memory =
     open_noted event setting memory (now.state.cores core) (now.doomed core) (view_at machine core) []
-    (stands.each core c.requires.core) c.requires.open (sym (set.empty_of_len (view_at machine core).writes none)) step.made step.is_made in
+    (stands.each core c.requires.core) c.requires.open (sym (set.empty_of_len (view_at machine core).writes none))
+    step.made step.is_made in
     subst (λ m. IsSameElsewhere c.args.self.now.lines.items m memory) (sym step.memory)
     (on_more [] c.args.self.now.lines.items step.made.0 memory (λ line (k, below, is). absurd (omega arith)) same)

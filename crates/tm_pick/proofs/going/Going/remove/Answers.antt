@@ -5,17 +5,20 @@ use Rattle.tm_pick.proofs.going.Going.remove.Goals as goal
 
 pub invariant_of-self : goal.invariant_of-self
 invariant_of-self c =
-    let within = subst (λ (xs : List ℕ). c.in-Some.index < length xs) c.as_slice.ensures.value c.in-Some.ensures.within in
+    let within =
+    subst (λ (xs : List ℕ). c.in-Some.index < length xs) c.as_slice.ensures.value c.in-Some.ensures.within in
     rw c.remove.ensures.items (all_pairs_remove (λ (a b : ℕ). a < b) _ c.in-Some.index within c.self.invariant)
 
 pub returns-in-Some-clause-below : goal.returns-in-Some-clause-below
 returns-in-Some-clause-below c =
-    let within = subst (λ (xs : List ℕ). c.in-Some.index < length xs) c.as_slice.ensures.value c.in-Some.ensures.within in
+    let within =
+    subst (λ (xs : List ℕ). c.in-Some.index < length xs) c.as_slice.ensures.value c.in-Some.ensures.within in
     rw (c.remove.ensures.items, ← c.self.view_is) (λ count all. below_left _ c.in-Some.index count within all)
 
 pub returns-in-Some-clause-others : goal.returns-in-Some-clause-others
 returns-in-Some-clause-others c =
-    let within = subst (λ (xs : List ℕ). c.in-Some.index < length xs) c.as_slice.ensures.value c.in-Some.ensures.within in
+    let within =
+    subst (λ (xs : List ℕ). c.in-Some.index < length xs) c.as_slice.ensures.value c.in-Some.ensures.within in
     let there =
     subst (λ (xs : List ℕ). get_or xs c.in-Some.index 0 ≡ c.args.core) c.as_slice.ensures.value
     c.in-Some.ensures.there in

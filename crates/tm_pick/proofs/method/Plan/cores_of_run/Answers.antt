@@ -12,7 +12,8 @@ returns-in-Bursts-clause-cores c =
 
 pub returns-in-Priorities-clause-cores : goal.returns-in-Priorities-clause-cores
 returns-in-Priorities-clause-cores c =
-    cores_by c.args.self c.args.run c.args.cores method.Priorities (words_of c.of_run-chance.result) c.priorities.result.manner
+    cores_by c.args.self c.args.run c.args.cores method.Priorities (words_of c.of_run-chance.result)
+    c.priorities.result.manner
     (sym c.in-Priorities.is ∙ c.of_run.ensures.value) c.of_run-chance.ensures
     (c.priorities.ensures.manner c.args.run)
 
@@ -24,6 +25,7 @@ returns-in-Seen-clause-cores c =
 
 pub returns-in-Uniform-clause-cores : goal.returns-in-Uniform-clause-cores
 returns-in-Uniform-clause-cores c =
-    cores_by c.args.self c.args.run c.args.cores method.Uniform (words_of c.of_run-chance.result) c.uniform.result.manner
+    cores_by c.args.self c.args.run c.args.cores method.Uniform (words_of c.of_run-chance.result)
+    c.uniform.result.manner
     (sym c.in-Uniform.is ∙ c.of_run.ensures.value) c.of_run-chance.ensures
     (c.uniform.ensures.manner c.args.run c.args.cores c.args.self.length)

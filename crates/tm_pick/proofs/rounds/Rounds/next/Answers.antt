@@ -15,7 +15,8 @@ left-preserved c = record {
   some = c.left.invariant.some;
   drawn = λ core after behind of.
       c.left.invariant.drawn core after behind
-      (without_last c.args.going.now (words_of c.args.chance.now) c.left.self.left.items c.pop.new.self.items c.in-Some.core
+      (without_last c.args.going.now (words_of c.args.chance.now) c.left.self.left.items
+      c.pop.new.self.items c.in-Some.core
       c.in-Some.ensures.items (λ there. true≢false (sym (c.if-contains.ensures.1 there))) core after behind of);
 }
 
@@ -28,14 +29,18 @@ unwrap-requires c =
 
 pub returns-clause-among : goal.returns-clause-among
 returns-clause-among c =
-    last_there c.args.going.now c.shuffled-self.result.items c.pop-2.new.self.items c.unwrap.result c.shuffled-self.ensures.same
-    (last_of c.pop-2.new.self.items c.shuffled-self.result.items c.pop-2.result c.unwrap.result c.pop-2.ensures.items c.unwrap.ensures)
+    last_there c.args.going.now c.shuffled-self.result.items c.pop-2.new.self.items c.unwrap.result
+    c.shuffled-self.ensures.same
+    (last_of c.pop-2.new.self.items c.shuffled-self.result.items c.pop-2.result c.unwrap.result c.pop-2.ensures.items
+    c.unwrap.ensures)
 
 pub returns-clause-drawn : goal.returns-clause-drawn
 returns-clause-drawn c =
     let none : c.left.self.left.items ≡ [] = search rules in
     c.left.invariant.drawn c.unwrap.result c.pop-2.new.self.items (words_of c.shuffled-self.new.chance)
-    (of_new c.args.going.now (words_of c.args.chance.now) c.left.self.left.items c.shuffled-self.result.items c.pop-2.new.self.items
+    (of_new c.args.going.now (words_of c.args.chance.now) c.left.self.left.items c.shuffled-self.result.items
+    c.pop-2.new.self.items
     c.unwrap.result (words_of c.shuffled-self.new.chance) none
-    (last_of c.pop-2.new.self.items c.shuffled-self.result.items c.pop-2.result c.unwrap.result c.pop-2.ensures.items c.unwrap.ensures)
+    (last_of c.pop-2.new.self.items c.shuffled-self.result.items c.pop-2.result c.unwrap.result c.pop-2.ensures.items
+    c.unwrap.ensures)
     c.shuffled-self.ensures.drawn)

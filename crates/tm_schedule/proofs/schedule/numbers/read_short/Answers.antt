@@ -32,7 +32,8 @@ words-preserved c =
       steps = λ form. i.steps form ∙ ap (λ xs. old ++ xs) (digit_steps form left rest core (line + 1) ends short)
           ∙ ap (λ k. old ++ pick ∷ steps form (words_from k (lines_of rest))) below
           ∙ sym (append_assoc old (pick ∷ []) (steps form (words_from (line + c.from-line.result + 1) (lines_of rest))))
-          ∙ ap (λ xs. xs ++ steps form (words_from (line + c.from-line.result + 1) (lines_of rest))) (sym c.push_reserved.ensures.items);
+          ∙ ap (λ xs. xs ++ steps form (words_from (line + c.from-line.result + 1) (lines_of rest)))
+          (sym c.push_reserved.ensures.items);
       room = omega (arith, i.room, shorter, long, same);
       few = omega (arith, i.few, shorter, one, added);
     }

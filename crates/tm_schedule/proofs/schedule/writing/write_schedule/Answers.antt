@@ -9,7 +9,8 @@ use Rattle.tm_schedule.proofs.schedule.writing.write_schedule.Goals as goal
 pub returns-clause-written : goal.returns-clause-written
 returns-clause-written g c =
     subst
-    (λ (b : Bool). Writes (g.O.Out.device c.args.out.now) (g.O.Out.device c.write_drawn.new.out) (drawn_text b c.args.picks.now) c.write_drawn.result)
+    (λ (b : Bool). Writes (g.O.Out.device c.args.out.now) (g.O.Out.device c.write_drawn.new.out)
+    (drawn_text b c.args.picks.now) c.write_drawn.result)
     c.has_event.ensures.event c.write_drawn.ensures
 
 pub returns-clause-read_back : goal.returns-clause-read_back

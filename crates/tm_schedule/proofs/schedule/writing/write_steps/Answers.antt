@@ -13,15 +13,18 @@ returns-in_err-add g c =
     let first = c.in-Some.ensures.cases in
     let same : c.picks.left.now ≡ c.in-Some.pick.now ∷ c.in-Some.rest.now = search (rules, first) in
     step_stopped (left_text c.add.new.self c.in-Some.rest.now) c.from_residual.result (search rules)
-    (ap (left_text c.picks.writer) same ∙ c.in_err-add.ensures.1 c.in-Some.rest.now) c.picks.invariant c.in_err-add.ensures.2
+    (ap (left_text c.picks.writer) same ∙ c.in_err-add.ensures.1 c.in-Some.rest.now) c.picks.invariant
+    c.in_err-add.ensures.2
 
 pub picks-preserved : goal.picks-preserved
 picks-preserved g c =
     let first = c.in-Some.ensures.cases in
     let same : c.picks.left.now ≡ c.in-Some.pick.now ∷ c.in-Some.rest.now = search (rules, first) in
-    step_written (ap (left_text c.picks.writer) same ∙ c.in_ok-add.ensures.1 c.in-Some.rest.now) c.picks.invariant c.in_ok-add.ensures.2
+    step_written (ap (left_text c.picks.writer) same ∙ c.in_ok-add.ensures.1 c.in-Some.rest.now) c.picks.invariant
+    c.in_ok-add.ensures.2
 
 pub returns : goal.returns
 returns g c =
     let none : c.picks.left.now ≡ [] = none_left c.picks.left.now c.in_default.ensures.cases in
-    steps_ended (g.O.Out.device c.finish.new.out) c.finish.result (ap (left_text c.picks.writer) none) c.picks.invariant c.finish.ensures
+    steps_ended (g.O.Out.device c.finish.new.out) c.finish.result (ap (left_text c.picks.writer) none) c.picks.invariant
+    c.finish.ensures

@@ -7,17 +7,21 @@ use Rattle.tm_sets.specs.DirectoryRows.{rows_of}
 use Rattle.tm_sets.proofs.Counting.{never}
 use Rattle.tm_sets.proofs.Members.{is_triple, present}
 use Rattle.tm_sets.proofs.Asking.{picked, passed}
-use Rattle.tm_sets.proofs.Finding.{start_walk, start_ahead, at_place, next_walk, go_ahead, visits_less, visits_within, visits_all, unseen_absent}
+use Rattle.tm_sets.proofs.Finding.{start_walk, start_ahead, at_place, next_walk, go_ahead, visits_less, visits_within}
+use Rattle.tm_sets.proofs.Finding.{visits_all, unseen_absent}
 use Rattle.tm_sets.proofs.threaded.Directory.find.Goals as goal
 
 pub loop-at-init : goal.loop-at-init
 loop-at-init c =
     let head : c.index-at.result.now ≡ get_or c.args.self.now.line_heads.items c.args.line 0 =
-    get_or_read c.args.self.now.line_heads.items c.args.line c.index-at.result.now (omega (arith, c.requires.line, c.args.self.now.sized.lines))
+    get_or_read c.args.self.now.line_heads.items c.args.line c.index-at.result.now
+    (omega (arith, c.requires.line, c.args.self.now.sized.lines))
     c.index-at.ensures 0 in
     record {
-      walk = start_walk (rows_of c.args.self.now) c.args.self.now.threaded c.args.line c.requires.line c.index-at.result.now head;
-      unseen = λ rank top t e o s. start_ahead (rows_of c.args.self.now) c.args.line c.requires.line c.index-at.result.now head rank top t e o;
+      walk = start_walk (rows_of c.args.self.now) c.args.self.now.threaded c.args.line c.requires.line
+          c.index-at.result.now head;
+      unseen = λ rank top t e o s. start_ahead (rows_of c.args.self.now) c.args.line c.requires.line
+          c.index-at.result.now head rank top t e o;
     }
 
 pub visit-entry-requires-clause-below : goal.visit-entry-requires-clause-below
@@ -35,7 +39,8 @@ returns-then-is_use-clause-found c =
     let at : c.loop-at.at ≡ c.loop-at.at - 1 + 1 = omega arith in
     let here = at_place c.loop-at.invariant.walk at in
     sym (present c.args.self.now.entries.items (c.loop-at.at - 1) c.args.core c.args.kind c.args.line here.0
-    (picked c.args.self.now.entries.items c.args.line c.args.core c.args.kind (c.loop-at.at - 1) c.visit-entry.result here
+    (picked c.args.self.now.entries.items c.args.line c.args.core c.args.kind (c.loop-at.at - 1)
+    c.visit-entry.result here
     c.visit-entry.ensures.entry (sym c.is_use.ensures ∙ c.if-is_use.true)))
 
 pub returns-then-is_use-clause-visited : goal.returns-then-is_use-clause-visited
@@ -61,11 +66,13 @@ loop-at-preserved c =
       walk = next_walk c.loop-at.invariant.walk at next c.visit-entry.ensures.visited;
       unseen = λ rank top t e o s. go_ahead c.loop-at.invariant.walk at next rank top t e o (λ i.
           never (is_triple (entry_at es e) c.args.core c.args.kind c.args.line) s
-          (ap (λ k. is_triple (entry_at es k) c.args.core c.args.kind c.args.line) i ∙ other)) (c.loop-at.invariant.unseen rank top t e o s);
+          (ap (λ k. is_triple (entry_at es k) c.args.core c.args.kind c.args.line) i ∙ other))
+          (c.loop-at.invariant.unseen rank top t e o s);
     }
 
 pub returns-clause-found : goal.returns-clause-found
-returns-clause-found c = sym (unseen_absent c.loop-at.invariant.walk c.args.core c.args.kind c.loop-at-test.false c.loop-at.invariant.unseen)
+returns-clause-found c =
+    sym (unseen_absent c.loop-at.invariant.walk c.args.core c.args.kind c.loop-at-test.false c.loop-at.invariant.unseen)
 
 pub returns-clause-visited : goal.returns-clause-visited
 returns-clause-visited c =

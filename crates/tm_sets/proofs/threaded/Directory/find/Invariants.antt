@@ -10,7 +10,8 @@ use Rattle.tm_sets.proofs.threaded.Directory.find.Given as goal
 abbrev pub invariant-loop-at : goal.invariant-loop-at
 invariant-loop-at l = record {
   walk : Walk (rows_of l.self) l.line l.at l.visited;
-  unseen : (rank : ℕ → ℕ) (top : ℕ) → AreThreaded (rows_of l.self) rank top → (e : ℕ) → OnLine l.self.entries.items l.line e
+  unseen :
+      (rank : ℕ → ℕ) (top : ℕ) → AreThreaded (rows_of l.self) rank top → (e : ℕ) → OnLine l.self.entries.items l.line e
       → is_triple (entry_at l.self.entries.items e) l.core l.kind l.line ≡ true → Ahead rank l.at e;
 }
 

@@ -10,8 +10,10 @@ use Rattle.tm_sets.proofs.threaded.Directory.is_within.Given as goal
 abbrev pub invariant-loop-at : goal.invariant-loop-at
 invariant-loop-at l = record {
   walk : CoreWalk (rows_of l.self) l.core l.at l.visited;
-  unseen : (rank : ℕ → ℕ) (top : ℕ) → AreThreaded (rows_of l.self) rank top → (e : ℕ) → OnCore l.self.entries.items l.core e
-      → set.contains (lines_in l.other.entries.items l.core (entry_at l.self.entries.items e).kind) (entry_at l.self.entries.items e).line ≡ false
+  unseen :
+      (rank : ℕ → ℕ) (top : ℕ) → AreThreaded (rows_of l.self) rank top → (e : ℕ) → OnCore l.self.entries.items l.core e
+      → set.contains (lines_in l.other.entries.items l.core (entry_at l.self.entries.items e).kind)
+      (entry_at l.self.entries.items e).line ≡ false
       → Ahead rank l.at e;
 }
 

@@ -20,11 +20,16 @@ record Made (c : In_ok-writes) : Type 0 where
 
 made : (c : In_ok-writes) → Made c
 made c =
-    let core_heads : c.in_ok-core_heads.core_heads.items ≡ replicate c.from-2.result 0 = c.in_ok-core_heads.ensures.items_if_clones_equal (λ y e. e) in
-    let line_heads : c.in_ok-line_heads.line_heads.items ≡ replicate c.args.lines 0 = c.in_ok-line_heads.ensures.items_if_clones_equal (λ y e. e) in
-    let reads : c.in_ok-reads.reads.items ≡ replicate c.from-3.result 0 = c.in_ok-reads.ensures.items_if_clones_equal (λ y e. e) in
-    let writes : c.in_ok-writes.writes.items ≡ replicate c.from-4.result 0 = c.in_ok-writes.ensures.items_if_clones_equal (λ y e. e) in
-    let cores : length c.in_ok-core_heads.core_heads.items ≡ c.args.cores = zeros_length _ _ core_heads ∙ c.from-2.ensures in
+    let core_heads : c.in_ok-core_heads.core_heads.items ≡ replicate c.from-2.result 0 =
+    c.in_ok-core_heads.ensures.items_if_clones_equal (λ y e. e) in
+    let line_heads : c.in_ok-line_heads.line_heads.items ≡ replicate c.args.lines 0 =
+    c.in_ok-line_heads.ensures.items_if_clones_equal (λ y e. e) in
+    let reads : c.in_ok-reads.reads.items ≡ replicate c.from-3.result 0 =
+    c.in_ok-reads.ensures.items_if_clones_equal (λ y e. e) in
+    let writes : c.in_ok-writes.writes.items ≡ replicate c.from-4.result 0 =
+    c.in_ok-writes.ensures.items_if_clones_equal (λ y e. e) in
+    let cores : length c.in_ok-core_heads.core_heads.items ≡ c.args.cores =
+    zeros_length _ _ core_heads ∙ c.from-2.ensures in
     let is_fresh : IsFresh (rows_made c) = record {
       row = λ place below. c.in_ok-entries.ensures.free place (omega (arith, below, c.in_ok-entries.ensures.count));
       core_heads = all_zero _ _ core_heads;
@@ -34,7 +39,8 @@ made c =
       free = sym c.in_ok-entries.ensures.count;
     } in
     let sized : AreSized (rows_made c) = record {
-      entries = c.in_ok-entries.ensures.count ∙ ap (λ n. n * (c.args.read_lines + c.args.write_lines)) (c.from.ensures ∙ sym cores);
+      entries = c.in_ok-entries.ensures.count
+          ∙ ap (λ n. n * (c.args.read_lines + c.args.write_lines)) (c.from.ensures ∙ sym cores);
       lines = zeros_length _ _ line_heads;
       reads = zeros_length _ _ reads ∙ c.from-3.ensures ∙ sym cores;
       writes = zeros_length _ _ writes ∙ c.from-4.ensures ∙ sym cores;
@@ -44,20 +50,24 @@ made c =
 pub invariant_of-result-clause-few : goal.invariant_of-result-clause-few
 invariant_of-result-clause-few c =
     let most : c.from.result * (c.args.read_lines + c.args.write_lines) ≤ 64 * 8192 =
-    mul-le c.from.result (c.args.read_lines + c.args.write_lines) 64 8192 (omega (arith, c.from.ensures)) (omega arith) in
+    mul-le c.from.result (c.args.read_lines + c.args.write_lines) 64 8192 (omega (arith, c.from.ensures))
+    (omega arith) in
     omega (arith, c.in_ok-entries.ensures.count)
 
 pub invariant_of-result-clause-cores : goal.invariant_of-result-clause-cores
-invariant_of-result-clause-cores c = omega (arith, (made (goal.at.invariant_of-result-clause-cores c).In_ok-writes).cores)
+invariant_of-result-clause-cores c =
+    omega (arith, (made (goal.at.invariant_of-result-clause-cores c).In_ok-writes).cores)
 
 pub invariant_of-result-clause-sized : goal.invariant_of-result-clause-sized
 invariant_of-result-clause-sized c = (made (goal.at.invariant_of-result-clause-sized c).In_ok-writes).sized
 
 pub invariant_of-result-clause-counted : goal.invariant_of-result-clause-counted
-invariant_of-result-clause-counted c = fresh_counted _ (made (goal.at.invariant_of-result-clause-counted c).In_ok-writes).is_fresh
+invariant_of-result-clause-counted c =
+    fresh_counted _ (made (goal.at.invariant_of-result-clause-counted c).In_ok-writes).is_fresh
 
 pub invariant_of-result-clause-threaded : goal.invariant_of-result-clause-threaded
-invariant_of-result-clause-threaded c = fresh_threaded _ (made (goal.at.invariant_of-result-clause-threaded c).In_ok-writes).is_fresh
+invariant_of-result-clause-threaded c =
+    fresh_threaded _ (made (goal.at.invariant_of-result-clause-threaded c).In_ok-writes).is_fresh
 
 pub returns-clause-content : goal.returns-clause-content
 returns-clause-content c =

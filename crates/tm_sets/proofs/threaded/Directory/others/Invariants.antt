@@ -10,8 +10,10 @@ use Rattle.tm_sets.proofs.threaded.Directory.others.Given as goal
 abbrev pub invariant-loop-at : goal.invariant-loop-at
 invariant-loop-at l = record {
   walk : Walk (rows_of l.self) l.line l.at l.visited;
-  told : (rank : ℕ → ℕ) (top : ℕ) → AreThreaded (rows_of l.self) rank top → (e : ℕ) → OnLine l.self.entries.items l.line e
-      → is_asked (entry_at l.self.entries.items e) l.core l.written ≡ true → (bit l.mask (entry_at l.self.entries.items e).core ≡ true) ⊎ Ahead rank l.at e;
+  told :
+      (rank : ℕ → ℕ) (top : ℕ) → AreThreaded (rows_of l.self) rank top → (e : ℕ) → OnLine l.self.entries.items l.line e
+      → is_asked (entry_at l.self.entries.items e) l.core l.written ≡ true
+      → (bit l.mask (entry_at l.self.entries.items e).core ≡ true) ⊎ Ahead rank l.at e;
   sound : (k : ℕ) → bit l.mask k ≡ true → asked (threaded_content (rows_of l.self)) l.written l.line l.core k ≡ true;
   below : l.mask < 2 ^ length l.self.core_heads.items;
 }

@@ -30,13 +30,15 @@ returns-clause-content c =
     ap (λ k. lines_in new.entries.items k kind) e ∙ none_left (rows_of new) new.threaded c.args.core below head kind
     ∙ sym (ap (λ t. cond t lines.empty (lines_in old.entries.items other kind)) (eq-eqb other c.args.core e)))
     (λ (e : other ≡ c.args.core → ⊥).
-    i.lines other kind e ∙ sym (ap (λ t. cond t lines.empty (lines_in old.entries.items other kind)) (ne_eqb other c.args.core e)))
+    i.lines other kind e
+    ∙ sym (ap (λ t. cond t lines.empty (lines_in old.entries.items other kind)) (ne_eqb other c.args.core e)))
     (cases_eq other c.args.core))
     (λ other. ⊎_elim
     (λ (e : other ≡ c.args.core).
     ap (slot_among new.entries.items) e ∙ none_slotted (rows_of new) new.threaded c.args.core below head
     ∙ sym (ap (λ t. cond t (λ _. None) (slot_among old.entries.items other)) (eq-eqb other c.args.core e)))
     (λ (e : other ≡ c.args.core → ⊥).
-    fun_ext (λ line. i.slots other line e) ∙ sym (ap (λ t. cond t (λ _. None) (slot_among old.entries.items other)) (ne_eqb other c.args.core e)))
+    fun_ext (λ line. i.slots other line e)
+    ∙ sym (ap (λ t. cond t (λ _. None) (slot_among old.entries.items other)) (ne_eqb other c.args.core e)))
     (cases_eq other c.args.core))
     (same_fixed i.read_lines i.write_lines i.cores i.line_count)

@@ -5,8 +5,10 @@ use Rattle.tm_sets.proofs.threaded.DirectorySets.clear.Given as goal
 
 abbrev pub invariant-loop-self : goal.invariant-loop-self
 invariant-loop-self l = record {
-  lines : (other : ℕ) (kind : Kind) → (other ≡ l.core → ⊥) → lines_in l.self.entries.items other kind ≡ lines_in l.fn.self.entries.items other kind;
-  slots : (other line : ℕ) → (other ≡ l.core → ⊥) → slot_among l.self.entries.items other line ≡ slot_among l.fn.self.entries.items other line;
+  lines : (other : ℕ) (kind : Kind) → (other ≡ l.core → ⊥)
+      → lines_in l.self.entries.items other kind ≡ lines_in l.fn.self.entries.items other kind;
+  slots : (other line : ℕ) → (other ≡ l.core → ⊥)
+      → slot_among l.self.entries.items other line ≡ slot_among l.fn.self.entries.items other line;
   cores : length l.self.core_heads.items ≡ length l.fn.self.core_heads.items;
   line_count : l.self.line_count ≡ l.fn.self.line_count;
   read_lines : l.self.read_lines ≡ l.fn.self.read_lines;

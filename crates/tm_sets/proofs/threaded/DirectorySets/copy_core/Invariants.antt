@@ -12,12 +12,17 @@ use Rattle.tm_sets.proofs.threaded.DirectorySets.copy_core.Given as goal
 abbrev pub invariant-loop-at : goal.invariant-loop-at
 invariant-loop-at l = record {
   walk : CoreWalk (rows_of l.other) l.core l.at l.visited;
-  unseen : (rank : ℕ → ℕ) (top : ℕ) → AreThreaded (rows_of l.other) rank top → (e : ℕ) → OnCore l.other.entries.items l.core e
-      → set.contains (lines_in l.self.entries.items l.core (entry_at l.other.entries.items e).kind) (entry_at l.other.entries.items e).line ≡ false
+  unseen : (rank : ℕ → ℕ) (top : ℕ) → AreThreaded (rows_of l.other) rank top
+      → (e : ℕ) → OnCore l.other.entries.items l.core e
+      → set.contains (lines_in l.self.entries.items l.core (entry_at l.other.entries.items e).kind)
+      (entry_at l.other.entries.items e).line ≡ false
       → Ahead rank l.at e;
-  within : (kind : Kind) → Within (lines_in l.self.entries.items l.core kind) (lines_in l.other.entries.items l.core kind);
-  lines : (c : ℕ) → (eqb c l.core ≡ true → ⊥) → (kind : Kind) → lines_in l.self.entries.items c kind ≡ lines_in l.fn.self.entries.items c kind;
-  slots : (c : ℕ) → (eqb c l.core ≡ true → ⊥) → slot_among l.self.entries.items c ≡ slot_among l.fn.self.entries.items c;
+  within :
+      (kind : Kind) → Within (lines_in l.self.entries.items l.core kind) (lines_in l.other.entries.items l.core kind);
+  lines : (c : ℕ) → (eqb c l.core ≡ true → ⊥)
+      → (kind : Kind) → lines_in l.self.entries.items c kind ≡ lines_in l.fn.self.entries.items c kind;
+  slots :
+      (c : ℕ) → (eqb c l.core ≡ true → ⊥) → slot_among l.self.entries.items c ≡ slot_among l.fn.self.entries.items c;
   fixed : (threaded_content (rows_of l.self)).fixed ≡ (threaded_content (rows_of l.fn.self)).fixed;
   visits : l.self.visits ≡ l.fn.self.visits;
 }

@@ -15,7 +15,9 @@ returns-clause-most c =
 
 pub returns-clause-all : goal.returns-clause-all
 returns-clause-all c absent = counted_exact (rows_of c.args.self.now) c.args.self.now.counted c.args.line _
-    (where_none c.find-place.result.0 c.is_some.result c.is_some.ensures absent c.find-place.ensures.none) c.saturating_add-self.ensures
+    (where_none c.find-place.result.0 c.is_some.result c.is_some.ensures absent c.find-place.ensures.none)
+    c.saturating_add-self.ensures
 
 pub returns-clause-few : goal.returns-clause-few
-returns-clause-few c = counted_few (rows_of c.args.self.now) c.args.self.now.counted c.args.line _ c.find-place.ensures.visited c.saturating_add-self.ensures
+returns-clause-few c = counted_few (rows_of c.args.self.now) c.args.self.now.counted c.args.line _
+    c.find-place.ensures.visited c.saturating_add-self.ensures

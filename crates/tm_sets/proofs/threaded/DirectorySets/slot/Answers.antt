@@ -10,20 +10,26 @@ use Rattle.tm_sets.proofs.Slotting.{slot_is, directory_slots}
 use Rattle.tm_sets.proofs.threaded.DirectorySets.slot.Goals as goal
 
 pub returns-in-Some-clause-all : goal.returns-in-Some-clause-all
-returns-in-Some-clause-all c = directory_slots (rows_of c.args.self.now) c.args.self.now.threaded c.args.self.now.counted
+returns-in-Some-clause-all c =
+    directory_slots (rows_of c.args.self.now) c.args.self.now.threaded c.args.self.now.counted
 
 pub returns-in-None-clause-all : goal.returns-in-None-clause-all
-returns-in-None-clause-all c = directory_slots (rows_of c.args.self.now) c.args.self.now.threaded c.args.self.now.counted
+returns-in-None-clause-all c =
+    directory_slots (rows_of c.args.self.now) c.args.self.now.threaded c.args.self.now.counted
 
 pub returns-in-Some-clause-value : goal.returns-in-Some-clause-value
 returns-in-Some-clause-value c =
     let es : List Entry = c.args.self.now.entries.items in
-    let below : c.in-Some.place < length es = subst (λ o. IfSome o (λ place. place < length es)) c.in-Some.is c.find-place.ensures.place in
+    let below : c.in-Some.place < length es =
+    subst (λ o. IfSome o (λ place. place < length es)) c.in-Some.is c.find-place.ensures.place in
     let triple : is_triple (entry_at es c.in-Some.place) c.args.core Write c.args.line ≡ true =
-    subst (λ o. IfSome o (λ place. is_triple (entry_at es place) c.args.core Write c.args.line ≡ true)) c.in-Some.is c.find-place.ensures.triple in
+    subst (λ o. IfSome o (λ place. is_triple (entry_at es place) c.args.core Write c.args.line ≡ true)) c.in-Some.is
+    c.find-place.ensures.triple in
     ap (λ e. Some e.slot) (get_or_read es c.in-Some.place c.index.result.now below c.index.ensures no_entry)
-    ∙ sym (slot_is (rows_of c.args.self.now) c.args.self.now.counted c.args.core c.args.line c.in-Some.place below triple)
+    ∙ sym
+    (slot_is (rows_of c.args.self.now) c.args.self.now.counted c.args.core c.args.line c.in-Some.place below triple)
 
 pub returns-in-None-clause-value : goal.returns-in-None-clause-value
 returns-in-None-clause-value c =
-    sym (slot_absent c.args.self.now.entries.items c.args.core c.args.line (sym c.find-place.ensures.found ∙ ap is_some c.in-None.is))
+    sym (slot_absent c.args.self.now.entries.items c.args.core c.args.line
+    (sym c.find-place.ensures.found ∙ ap is_some c.in-None.is))

@@ -1,4 +1,5 @@
--- Neither what begins nor what is kept of a step changes the bars, so the bar of the end is added to those that were there.
+-- Neither what begins nor what is kept of a step changes the bars, so the bar of the end is added to those that were
+-- there.
 use Rattle.std.proofs.Common.{◌≡◌, ◌≤◌, ◌<◌, ◌∷◌, ◌++◌, [], Some, ap, sym, subst, ◌∙◌}
 use Rattle.std.proofs.lemmas.Result.{on_ok_weaker}
 use Rattle.tm_timeline.specs.Told.{IsEnded, bars, is_few}

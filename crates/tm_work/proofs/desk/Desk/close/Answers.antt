@@ -6,4 +6,5 @@ use Rattle.tm_work.proofs.desk.Desk.close.Goals as goal
 
 pub returns-clause-seats : goal.returns-clause-seats
 returns-clause-seats g c =
-    subst (λ (b : ShownBoard). All (SeatTells g.J.DeskIdentity.given b) c.args.seats.items) (sym c.into_board.ensures.is) c.settle_all.ensures.told
+    subst (λ (b : ShownBoard). All (SeatTells g.J.DeskIdentity.given b) c.args.seats.items)
+    (sym c.into_board.ensures.is) c.settle_all.ensures.told

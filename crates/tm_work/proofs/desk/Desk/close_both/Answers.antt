@@ -6,8 +6,10 @@ use Rattle.tm_work.proofs.desk.Desk.close_both.Goals as goal
 
 pub returns-clause-seats : goal.returns-clause-seats
 returns-clause-seats g c =
-    subst (λ (b : ShownBoard). All (SeatTells g.J.DeskIdentity.given b) c.args.seats.items) (sym (c.into_board.ensures.is ∙ c.settle_others.ensures.same)) c.settle_all.ensures.told
+    subst (λ (b : ShownBoard). All (SeatTells g.J.DeskIdentity.given b) c.args.seats.items)
+    (sym (c.into_board.ensures.is ∙ c.settle_others.ensures.same)) c.settle_all.ensures.told
 
 pub returns-clause-others : goal.returns-clause-others
 returns-clause-others g c =
-    subst (λ (b : ShownBoard). All (SeatTells g.J.DeskIdentity.given b) c.args.others.items) (sym c.into_board.ensures.is) c.settle_others.ensures.told
+    subst (λ (b : ShownBoard). All (SeatTells g.J.DeskIdentity.given b) c.args.others.items)
+    (sym c.into_board.ensures.is) c.settle_others.ensures.told

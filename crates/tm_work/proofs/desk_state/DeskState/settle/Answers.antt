@@ -13,8 +13,10 @@ invariant_of-self g c =
     let board = c.self.inside.board in
     let ledger = c.self.inside.ledger in
     let seat = c.args.seat in
-    let same : progress_of c.steps.result c.last.result c.ended.result ≡ seat.progress = λ i. progress_of (c.steps.ensures i) (c.last.ensures i) (c.ended.ensures i) in (
-      subst (LedgerAgrees given board) (sym (n.ledger ∙ ap (λ (m : Progress). slice_set ledger seat.core m) same)) (same_agrees given board ledger seat.core seat.progress s n.was),
+    let same : progress_of c.steps.result c.last.result c.ended.result ≡ seat.progress =
+    λ i. progress_of (c.steps.ensures i) (c.last.ensures i) (c.ended.ensures i) in (
+      subst (LedgerAgrees given board) (sym (n.ledger ∙ ap (λ (m : Progress). slice_set ledger seat.core m) same))
+          (same_agrees given board ledger seat.core seat.progress s n.was),
       c.self.invariant.1,
     )
 

@@ -16,5 +16,6 @@ invariant_of-self g c =
     let is : c.note.new.ledger ≡ slice_set c.self.inside.ledger c.core.result c.make_steps-made.new.progress = cc in (
       subst (λ (l : List Progress). LedgerAgrees g.J.DeskIdentity.given c.make_steps-made.new.board l) (sym is)
           (c.make_steps-made.ensures.made.agrees _ _ c.self.invariant.0 was),
-      alone_disturbed g.J.DeskIdentity.events _ _ _ _ _ _ _ c.self.invariant.0.goes_on c.make_steps-made.ensures.made c.self.invariant.1,
+      alone_disturbed g.J.DeskIdentity.events _ _ _ _ _ _ _ c.self.invariant.0.goes_on c.make_steps-made.ensures.made
+          c.self.invariant.1,
     )

@@ -19,7 +19,8 @@ unfolding left_text
 returns-in-Some-with g c = (
   [],
   λ rest. ap (λ (run : Option Run). words_left c.args.self.now.column run (c.args.pick ∷ rest)) c.in-Some.is
-      ∙ longer_left c.args.self.now.column c.in-Some.last c.in-Some-with.longer c.args.pick (sym c.in-Some-with.ensures) rest,
+      ∙ longer_left c.args.self.now.column c.in-Some.last c.in-Some-with.longer c.args.pick
+      (sym c.in-Some-with.ensures) rest,
   wrote_none (g.O.Out.device c.args.out.now),
 )
 
@@ -28,6 +29,7 @@ unfolding left_text
 returns-in-None-with g c = (
   run_word c.in-Some.last ++ c.separator-behind.result.now,
   λ rest. ap (λ (run : Option Run). words_left c.args.self.now.column run (c.args.pick ∷ rest)) c.in-Some.is
-      ∙ ended_left c.args.self.now.column c.in-Some.last c.args.pick c.separator-behind.result.now (sym c.in-None-with.ensures) c.separator-behind.ensures.text rest,
+      ∙ ended_left c.args.self.now.column c.in-Some.last c.args.pick c.separator-behind.result.now
+      (sym c.in-None-with.ensures) c.separator-behind.ensures.text rest,
   c.write_run.ensures,
 )
