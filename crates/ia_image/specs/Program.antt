@@ -6,8 +6,8 @@ use Rattle.ia_decode.specs.Offsets.{AreDecoded}
 use Rattle.ia_insn.specs.declared.fault.DecodeFault.{DecodeFault}
 use Rattle.ia_insn.specs.declared.op.Insn.{Insn}
 use Rattle.ia_regs.specs.declared.Regs.{Regs}
-use Rattle.ia_row.specs.Lines.{AreLines, TellAll}
-use Rattle.ia_row.specs.declared.row.Line.{Line}
+use Rattle.ia_flat.specs.FlatCode.{AreFlats, TellAll}
+use Rattle.ia_flat.specs.declared.flat.FlatAt.{FlatAt}
 
 -- a program as its contracts see it: the bytes of the image, the address of the first, how many of them are code, the
 -- size of memory in bytes, and the address at which each core starts
@@ -43,13 +43,13 @@ abbrev pub decoded_once : List ℕ → ℕ
 decoded_once code = min (length code) 65536
 
 -- a program, with what decoding gives from each of these offsets, and the same as flat rows
-pub record IsProgram (program : ProgramValue) (rows : List (Result (Insn × ℕ) DecodeFault)) (lines : List Line)
+pub record IsProgram (program : ProgramValue) (rows : List (Result (Insn × ℕ) DecodeFault)) (lines : List FlatAt)
     : Type 0 where
   pub sound : IsSound program
   pub count : length rows ≡ decoded_once (code_of program)
   pub decoded : AreDecoded (code_of program) rows
   pub line_count : length lines ≡ decoded_once (code_of program)
-  pub lined : AreLines (code_of program) lines
+  pub lined : AreFlats (code_of program) lines
   pub told : TellAll (code_of program) lines
 
 -- memory at the start: the image at its base, and zeros

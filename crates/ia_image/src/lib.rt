@@ -1,10 +1,10 @@
 //! Programs that a machine can start: images, the tests of the loader, and image text.
 //!
-//! Promises that a program which loads is sound (each core has an entry in the code and a stack, and the image lies in
-//! memory), that of several faults the first in a fixed order is told, and that an image text that was written is read
-//! back. A program keeps its code decoded, also as the flat rows of `ia_row`, so that a machine decodes no instruction
-//! twice. Stands on `ia_decode`, on `ia_row`, on `text_out` for writing and on `ia_lex` for lines; takes memory for the
-//! image and the decoded code alone.
+//! Promises that a program which loads is sound (each core has an entry in the code and a stack, and the image lies
+//! in memory), that of several faults the first in a fixed order is told, and that an image text that was written
+//! is read back. A program keeps its code decoded, also as the flat instructions of `ia_flat`, so that a machine
+//! decodes none twice. Stands on `ia_decode`, on `ia_flat`, on `text_out` for writing and on `ia_lex` for lines;
+//! takes memory for the image and the decoded code alone.
 #![tactic(auto)]
 
 mod decoding;

@@ -1,7 +1,7 @@
 //! A program that was loaded, and image text by example.
 
+use ia_flat::Flat;
 use ia_image::{ImageFault, LoadFault, load, read_image, write_image};
-use ia_row::Row;
 use std::test::Fail;
 use text_out::{Out, ToVec};
 
@@ -30,14 +30,14 @@ const CODE: [u8; 20] = [
 ];
 
 // What the rows of this program are called here.
-fn name_of(row: Row) -> &'static str {
+fn name_of(row: Flat) -> &'static str {
     match row {
-        Row::Inc(0) => "inc eax",
-        Row::Dec(1) => "dec ecx",
-        Row::Push(2) => "push edx",
-        Row::End => "xend",
-        Row::Nothing => "nothing",
-        Row::Other => "no row",
+        Flat::Inc(0) => "inc eax",
+        Flat::Dec(1) => "dec ecx",
+        Flat::Push(2) => "push edx",
+        Flat::End => "xend",
+        Flat::Nothing => "nothing",
+        Flat::Other => "no row",
         _ => "another row",
     }
 }

@@ -11,7 +11,7 @@ use Rattle.std.proofs.lemmas.Bool.{eq-eqb, or_right, true≢false}
 use Rattle.std.proofs.lemmas.List.{ext_get_or, length-take-le}
 use Rattle.ia_insn.specs.declared.fault.DecodeFault.{DecodeFault}
 use Rattle.ia_insn.specs.declared.op.Insn.{Insn}
-use Rattle.ia_row.specs.declared.row.Line.{Line}
+use Rattle.ia_flat.specs.declared.flat.FlatAt.{FlatAt}
 use Rattle.ia_word.specs.Line.{line}
 use Rattle.tm_buffer.specs.Buffer.{BufferValue, IsPartOf, holds}
 use Rattle.tm_model.specs.Setting.{Setting, setting_of}
@@ -177,7 +177,7 @@ module _ (a b d : Content) (code their_code : List ℕ) (base their_base : ℕ) 
       (subst (λ (k : Setting). ViewsStandFor k (length other.views) other.memory (view_at other) st doomed)
       (sym rules_there) h))
 
-  module _ (rows their_rows : List (Result (Insn × ℕ) DecodeFault)) (lines their_lines : List Line)
+  module _ (rows their_rows : List (Result (Insn × ℕ) DecodeFault)) (lines their_lines : List FlatAt)
       (busy their_busy : Bool)
       (was : IsMachine a code base rows lines m cpus busy)
       (is : IsMachine d their_code their_base their_rows their_lines theirs twins their_busy)

@@ -5,7 +5,7 @@ use Rattle.std.specs.FinSet as finset
 use Rattle.std.specs.Prelude.{Result}
 use Rattle.ia_insn.specs.declared.fault.DecodeFault.{DecodeFault}
 use Rattle.ia_insn.specs.declared.op.Insn.{Insn}
-use Rattle.ia_row.specs.declared.row.Line.{Line}
+use Rattle.ia_flat.specs.declared.flat.FlatAt.{FlatAt}
 use Rattle.ia_image.specs.Program.{ProgramValue as Program, opening_memory}
 use Rattle.tm_model.specs.Setting.{setting_of}
 use Rattle.tm_model.specs.State.{opening_state}
@@ -64,7 +64,7 @@ module _ (p : Program) (old : ShownMachine) (a b : Content) (code : List ℕ) (b
         (subst (λ x. StandsFor (shown_by b code base m2 x) (opening_state p) (λ _. None)) (sym in_place)
         (opening_stands p b code base m2 cpus2 no_lines memory (as_many ∙ of_program) started))
 
-  pub reopened : (rows : List (Result (Insn × ℕ) DecodeFault)) (lines : List Line) (busy : Bool) →
+  pub reopened : (rows : List (Result (Insn × ℕ) DecodeFault)) (lines : List FlatAt) (busy : Bool) →
       IsMachine a code base rows lines m cpus busy → IsMachine b code base rows lines bytes_back cores_back false
   reopened rows lines busy is =
       let known : length p.entries ≤ b.fixed.cores =
