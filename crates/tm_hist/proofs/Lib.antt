@@ -9,3 +9,4 @@ pub mod Boards
 pub mod Pushes
 pub mod UnderEvents
 pub mod Owed
+mod HistoryCores

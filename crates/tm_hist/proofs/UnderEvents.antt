@@ -1,11 +1,12 @@
 -- What a step answers, under an event from outside of the program or under none.
 use Rattle.std.proofs.Common.{◌≡◌, ℕ, ◌<◌, true, false, cond, eqb, List, length, Option, Some, None, sym, ap, ◌∙◌}
-use Rattle.std.proofs.Common.{subst}
+use Rattle.std.proofs.Common.{inl, inr, subst}
 use Rattle.std.proofs.lemmas.Option.{option_and_then_some, same_Some}
 use Rattle.ia_regs.specs.declared.Regs.{Regs}
 use Rattle.tm_rule.specs.declared.kinds.OutsideResult.{OutsideResult}
 use Rattle.tm_rule.specs.declared.kinds.OutsideResult.TheVariants.{Goes, Begins, Stops}
-use Rattle.tm_model.specs.declared.outcome.CoreState.TheVariants.{Running, Condemned, Stopped as AtStop}
+use Rattle.tm_model.specs.declared.outcome.CoreState.{CoreState}
+use Rattle.tm_model.specs.declared.outcome.CoreState.TheVariants.{Running, Mid, Open, Condemned, Stopped as AtStop}
 use Rattle.tm_model.specs.declared.outcome.Event.{Event}
 use Rattle.tm_model.specs.declared.outcome.Event.TheVariants as event
 use Rattle.tm_model.specs.declared.outcome.Interference.{Interference}
@@ -19,7 +20,7 @@ use Rattle.tm_model.specs.State.{Closed, Core, Halted, Midway, Opened, State, op
 use Rattle.tm_core.specs.Theorem.{ShownMachine as Machine, StandsFor, TakesStep, TakesStepUnder, machine_setting}
 use Rattle.tm_core.specs.Theorem.{view_at}
 use Rattle.tm_model.proofs.Events.{no_event_told}
-use Rattle.tm_hist.specs.Board.{IsHistory, IsOwedNext, ShownBoard, TellsAsShown, board_setting}
+use Rattle.tm_hist.specs.Board.{IsHistory, IsOwedNext, ShownBoard, TellsAsShown, TellsOf, board_setting}
 
 -- a step under no event tells of none
 pub tells_none : (old new : Machine) (a : State) (d : ℕ → Option ℕ) (c : ℕ) (o : Outcome) → TakesStep old new a d c o
@@ -78,6 +79,14 @@ tells_as_shown (event.Abort by) b new c o h below takes =
     let doom : ℕ → Option ℕ = doomed_at_end (board_setting b) (opening_state b.program) (λ _. None) b.history in
     tells_shown by (machine_setting b.machine) h.end.memory o (h.end.cores c) (doom c) (view_at b.machine c)
     (h.stands.each c below) (takes h.end doom h.stands).is_owed
+
+-- so it tells of that event, or of none
+pub tells_of : (event : Event) (shown : CoreState) (o : Outcome) → TellsAsShown event shown o → TellsOf (Some event) o
+tells_of (event.Abort by) (Open depth) o h = inr (ap event_told h)
+tells_of (event.Abort by) Running o h = inl h
+tells_of (event.Abort by) Mid o h = inl h
+tells_of (event.Abort by) (Condemned depth) o h = inl h
+tells_of (event.Abort by) (AtStop why) o h = inl h
 
 -- what it answers is owed behind the board's history
 pub owed_behind : (event : Option Event) (b : ShownBoard) (new : Machine) (c : ℕ) (o : Outcome) → IsHistory b

@@ -1,5 +1,5 @@
 -- A machine with the history of its steps.
-use Rattle.std.specs.Prelude.{◌≡◌, ◌≢◌, ℕ, ◌≤◌, Bool, ◌||◌, List, [], ◌++◌, All, Option, Some, None, drop, length}
+use Rattle.std.specs.Prelude.{◌≡◌, ◌≢◌, ◌⊎◌, ℕ, ◌≤◌, Bool, ◌||◌, List, [], ◌++◌, All, Option, Some, None, drop, length}
 use Rattle.std.specs.Prelude.{nat_lt, refl}
 use Rattle.std.specs.Coded.{Coded, code_by, coded×, coded_ℕ, coded_list}
 use Rattle.ia_image.specs.Program.{ProgramValue as Program}
@@ -127,6 +127,10 @@ IsOwedNext event board core outcome =
 abbrev pub TellsAsShown : Event → CoreState → Outcome → Type 0
 TellsAsShown (event.Abort by) (state.Open depth) outcome = outcome ≡ abort_by by depth
 TellsAsShown event state outcome = event_told outcome ≡ None
+
+-- the outcome tells of this event, or of none
+abbrev pub TellsOf : Option Event → Outcome → Type 0
+TellsOf event outcome = (event_told outcome ≡ None) ⊎ (event_told outcome ≡ event)
 
 -- the pairs of a board's history behind those of an earlier one's
 abbrev pub pairs_behind : ShownBoard → ShownBoard → List (ℕ × Outcome)

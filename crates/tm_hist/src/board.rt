@@ -6,12 +6,13 @@
 //! of a history on one memory in `one_memory`.
 
 ghost use Rattle.std.specs.Prelude.{◌≡◌, ◌↔◌, ◌⊎◌, ◌<◌, ◌≤◌, ℕ, List, [], ◌∷◌, ◌++◌, Err, IfErr, IfOk, IsTrue, OnErr};
-ghost use Rattle.std.specs.Prelude.{◌-◌, None, Some, false, length, min, true};
+ghost use Rattle.std.specs.Prelude.{◌-◌, IfSome, None, Some, false, length, min, true};
+ghost use Rattle.std.specs.List.{slice_get};
 ghost use Rattle.tm_core.specs.AtOnce.{IsDoneOnRegisters};
 ghost use Rattle.tm_core.specs.Machine.{bad_limits};
-ghost use Rattle.tm_model.specs.Runs.{event_told};
+ghost use Rattle.tm_model.specs.Runs.{event_told, picks_of};
 ghost use Rattle.tm_hist.specs.Board.{AreSteps, IsFull, IsHistory, IsNew, IsOwedNext, IsStopped, SameBoard};
-ghost use Rattle.tm_hist.specs.Board.{TellsAsShown, bad_limit};
+ghost use Rattle.tm_hist.specs.Board.{TellsAsShown, TellsOf, bad_limit};
 ghost use Rattle.tm_hist.specs.BoardFaults.{board_code, step_code};
 ghost use Rattle.tm_hist.specs.History.{pairs_of};
 ghost use Rattle.tm_hist.specs.Machine.{shown_state};
@@ -28,7 +29,7 @@ use std::alloc::Global;
 use std::marker::Model;
 use thiserror::Error;
 use tm_core::{Limits, Machine, MachineFault, MachineMemory, NoSuchCore};
-use tm_model::{CoreState, Event, Outcome};
+use tm_model::{CoreState, Event, Outcome, Pick};
 
 /// Why no board was made.
 #[derive(Clone, Copy, PartialEq, Eq, Debug, Drop, Error)]
@@ -252,6 +253,28 @@ impl Board {
         }
     }
 
+    /// The step that a pick tells of: [`Board::step_under`] its event where it has one, else [`Board::step`], with the
+    /// faults of these.
+    #[inline(always)]
+    #[tactic(auto, using(crate::proofs::UnderEvents::tells_of))]
+    pub fn step_by(&mut self, pick: Pick) -> Result<Outcome, StepFault>
+        ensures none { result ≡ Err StepFault.NoSuchCore ↔ (length self.old.program.entries ≤ pick.core) }
+        ensures full { result ≡ Err StepFault.LimitReached
+            ↔ ((pick.core < length self.old.program.entries) × IsFull self.old) }
+        ensures same { SameBoard self.old self.new }
+        ensures ok { IfOk result (λ outcome. self.new.history ≡ self.old.history ++ (pick.core, outcome) ∷ []) }
+        ensures owed { IfOk result (λ outcome. IsOwedNext pick.event self.old pick.core outcome) }
+        ensures told { IfOk result (λ outcome. TellsOf pick.event outcome) }
+        ensures stops { (k : ℕ) → IsStopped self.old k → IsStopped self.new k }
+        ensures idle { IfOk result (λ outcome. (outcome ≡ Outcome.Idle) ↔ IsStopped self.old pick.core) }
+        ensures err { OnErr result (self.new ≡ self.old) }
+    {
+        match pick.event {
+            Some(event) => self.step_under(pick.core, event),
+            None => self.step(pick.core),
+        }
+    }
+
     /// Up to so many steps of a core, each of them one more pair of the history, and how many they were: fewer only
     /// where the core has stopped or the history is full. So none of them is idle, and none is aborted from outside of
     /// the program. Takes no memory.
@@ -354,6 +377,26 @@ impl Board {
         History::made(self.made.as_slice())
     }
 
+    /// The step at an index of the history, as [`History::get`] answers it. Its core is one of the program's.
+    pub fn step_at(&self, index: usize) -> Option<(u8, Outcome)>
+        ensures step { result ≡ slice_get self.now.history index }
+        ensures exists { IfSome result (λ pair. pair.0 < length self.now.program.entries) }
+    {
+        // By this it is known that the program has the cores of the history.
+        self.is_run();
+        self.history().get(index)
+    }
+
+    /// The pick of the step at an index, as [`History::pick_at`] answers it. Its core is one of the program's.
+    pub fn pick_at(&self, index: usize) -> Option<Pick>
+        ensures pick { result ≡ slice_get (picks_of self.now.history) index }
+        ensures exists { IfSome result (λ pick. pick.core < length self.now.program.entries) }
+    {
+        // As above.
+        self.is_run();
+        self.history().pick_at(index)
+    }
+
     /// How many steps there may be, 1 to 16,777,216.
     pub fn limit(&self) -> u64
         ensures limit { result ≡ self.now.limit }
@@ -382,6 +425,7 @@ impl Board {
     pub fn cores(&self) -> u8
         ensures program { result ≡ length self.now.program.entries }
         ensures machine { result ≡ length self.now.machine.views }
+        ensures some { 0 < result }
         ensures most { result ≤ 64 }
     {
         self.program.cores()

@@ -4,12 +4,13 @@
 //! alike of both. A list of a caller may be no run: that is found out by [`serial`](crate::serial), not here. The
 //! event of a step is known only by an outcome that tells of it.
 
-ghost use Rattle.std.specs.Prelude.{◌≡◌, ◌==◌, length, map};
+ghost use Rattle.std.specs.Prelude.{◌≡◌, ◌==◌, [], IfOk, OnOk, length, map};
 ghost use Rattle.std.specs.List.{slice_get};
 ghost use Rattle.tm_model.specs.Runs.{event_told, pick_of, picks_of};
 ghost use Rattle.tm_hist.specs.History.{pair_of, pairs_in, pairs_of};
 
 use crate::pair::Pair;
+use std::alloc::{AllocError, Global};
 use tm_model::{Event, Outcome, Pick};
 
 /// A list of steps, which it borrows. Copying it copies no step.
@@ -79,6 +80,7 @@ impl<'a> History<'a> {
             Steps::Made(pairs) => pairs.get(index).map(|pair| (pair.core, pair.outcome())),
         }
     }
+
     /// The pick of the step at an index: its core, and the event that its outcome tells of. Nothing behind the last. A
     /// step under an event that aborted nothing tells of none.
     pub fn pick_at(self, index: usize) -> Option<Pick>
@@ -90,10 +92,30 @@ impl<'a> History<'a> {
             event: event_of(outcome),
         })
     }
+
+    /// The picks of the steps, whose run makes them again: an event that aborted nothing is left out.
+    pub fn picks(self, alloc: Global) -> Result<Vec<Pick>, AllocError>
+        ensures { IfOk result (λ picks. picks.items ≡ picks_of (pairs_of self.entry)) }
+    {
+        let mut picks = Vec::with_capacity(alloc, self.len())?;
+        self.fill(&mut picks)?;
+        Ok(picks)
+    }
+
+    /// Puts what [`History::picks`] answers into a list that has none. It takes no memory where there is room.
+    pub fn fill(self, picks: &mut Vec<Pick>) -> Result<(), AllocError>
+        requires { picks.old.items ≡ [] }
+        ensures { OnOk result (picks.new.items ≡ picks_of (pairs_of self.entry)) }
+    {
+        for index in 0..self.len() {
+            picks.push(self.pick_at(index).unwrap())?;
+        }
+        Ok(())
+    }
 }
 
-// The event that an outcome tells of.
-fn event_of(outcome: Outcome) -> Option<Event>
+/// The event that an outcome tells of.
+pub fn event_of(outcome: Outcome) -> Option<Event>
     ensures { result ≡ event_told outcome }
 {
     match outcome {

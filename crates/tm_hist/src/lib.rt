@@ -1,13 +1,13 @@
 //! A machine with the history of its steps, the serial run of a history, and what is printed of a run.
 //!
-//! A `Board` keeps that its machine is the run of its history, whose outcomes are the owed ones (`Board::is_run`), so
-//! each history replays: `serial` runs it on one flat memory, without buffers, sets or marks, and ends with the
+//! A `Board` keeps that its machine is the run of its history, whose outcomes are the owed ones (`Board::is_run`),
+//! so each history replays: `serial` runs it on one flat memory, without buffers, sets or marks, and ends with the
 //! machine's memory, registers and stops, or names the first pair at which a list is no run. `Board::steps` makes
-//! several steps of one core, a transaction among them as a whole where it can; `Board::step_under` makes one under an
-//! event from outside; `Board::restart` takes a board back before its first step. `first_steps` makes the first steps
-//! of a board's history once more, on a board of the same program and limits: as a board's machine is the run of its
-//! history, this is the machine as it was behind these steps. State lines, outcome lines and dumps are those of
-//! docs/FORMATS.md; schedules are `tm_schedule`'s.
+//! several steps of one core, a transaction among them as a whole where it can; `Board::step_under` makes one under
+//! an event from outside, `Board::step_by` the one that a pick tells of; `Board::restart` takes a board back before
+//! its first step. `first_steps` makes the first steps of a board's history once more, on a board of the same
+//! program and limits: as a board's machine is the run of its history, this is the machine as it was behind these
+//! steps. State lines, outcome lines and dumps are those of docs/FORMATS.md; schedules are `tm_schedule`'s.
 //!
 //! Stands on `tm_core` (the machine), `tm_rule` (one instruction), `ia_image` (programs) and `text_out` (numbers,
 //! writing).
@@ -27,12 +27,13 @@ mod step;
 mod usual;
 mod whole;
 
-pub use back::{BackFault, first_steps};
+pub use back::first_steps;
 pub use board::{Board, BoardFault, MOST_STEPS, StepFault};
-pub use history::History;
+pub use history::{History, event_of};
 pub use history_memory::HistoryMemory;
 pub use lines::{
-    interference_text, push_state, stop_text, write_core, write_dump, write_outcome, write_state,
+    depth_of, interference_text, push_state, stop_text, write_core, write_dump, write_outcome,
+    write_state,
 };
 pub use one_memory::serial;
 pub use replay::{Serial, SerialFault};

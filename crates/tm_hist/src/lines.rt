@@ -10,7 +10,7 @@ ghost use Rattle.text_out.specs.Writing.{Writes};
 ghost use Rattle.tm_hist.specs.Lines.{core_line, core_text, dump_line, dump_lines, flag_sum, flags_text};
 ghost use Rattle.tm_hist.specs.Lines.{interference_word, outcome_line, register_text, regs_text, state_text};
 ghost use Rattle.tm_hist.specs.Lines.{state_word, stop_word};
-ghost use Rattle.tm_hist.specs.Machine.{core_count};
+ghost use Rattle.tm_hist.specs.Machine.{core_count, depth_of};
 
 use ia_regs::{Flags, Regs};
 use text_out::page::{push, push_bytes, push_eight};
@@ -47,6 +47,16 @@ pub fn interference_text(interference: Interference) -> &'static [u8]
         Interference::Interrupt => b"interrupt",
         Interference::Eviction => b"eviction",
         Interference::Snoop => b"snoop",
+    }
+}
+
+/// How deep the transaction is that is open, or that a conflict hit; 0 outside of transactions.
+pub fn depth_of(state: CoreState) -> u8
+    ensures { result ≡ depth_of state }
+{
+    match state {
+        CoreState::Running | CoreState::Mid | CoreState::Stopped(_) => 0,
+        CoreState::Open(depth) | CoreState::Condemned(depth) => depth,
     }
 }
 

@@ -8,7 +8,7 @@ ghost use Rattle.std.specs.Prelude.{◌≡◌, ◌⊎◌, ◌-◌, ◌≤◌, �
 ghost use Rattle.std.specs.Prelude.{IfErr};
 ghost use Rattle.std.specs.List.{AllByRecursion, range_with_len};
 ghost use Rattle.ia_image.specs.Program.{opening_memory};
-ghost use Rattle.ia_row.specs.Lines.{AreLines};
+ghost use Rattle.ia_flat.specs.FlatCode.{AreFlats};
 ghost use Rattle.tm_model.specs.Setting.{setting_of};
 ghost use Rattle.tm_hist.specs.History.{pair_of, pairs_of};
 ghost use Rattle.tm_hist.specs.Replay.{IsRefused, IsReplay};
@@ -19,8 +19,8 @@ use crate::pair::Pair;
 use crate::replay::{Serial, SerialFault};
 use crate::serial_core::SerialCore;
 use crate::step::step;
+use ia_flat::FlatAt;
 use ia_image::Program;
-use ia_row::Line;
 use std::alloc::Global;
 use tm_core::start_regs;
 use tm_model::Outcome;
@@ -28,14 +28,14 @@ use tm_rule::Code;
 
 // Runs the steps of a board; where that fails, the index of the first at which they are no run.
 fn run_made(
-    lines: &[Line],
+    lines: &[FlatAt],
     code: &Code<'_>,
     size: u32,
     memory: &mut [u8],
     cores: &mut [SerialCore],
     pairs: &[Pair],
 ) -> Result<(), usize>
-    requires lines { AreLines code.now.bytes.now lines.now }
+    requires lines { AreFlats code.now.bytes.now lines.now }
     requires size { length memory.old ≡ size }
     requires closed { AllByRecursion (λ c. steps_of c ≤ 0) cores.old }
     ensures ok { OnOk result (list_run (setting_of code.now.bytes.now code.now.base size 0 0) memory.old
@@ -53,14 +53,14 @@ fn run_made(
 
 // [`run_made`] of steps that were given, each packed when its turn comes.
 fn run_given(
-    lines: &[Line],
+    lines: &[FlatAt],
     code: &Code<'_>,
     size: u32,
     memory: &mut [u8],
     cores: &mut [SerialCore],
     pairs: &[(u8, Outcome)],
 ) -> Result<(), usize>
-    requires lines { AreLines code.now.bytes.now lines.now }
+    requires lines { AreFlats code.now.bytes.now lines.now }
     requires size { length memory.old ≡ size }
     requires closed { AllByRecursion (λ c. steps_of c ≤ 0) cores.old }
     ensures ok { OnOk result (list_run (setting_of code.now.bytes.now code.now.base size 0 0) memory.old
@@ -79,14 +79,14 @@ fn run_given(
 
 // Runs a history; where that fails, the index of the first pair at which it is no run.
 fn run_history(
-    lines: &[Line],
+    lines: &[FlatAt],
     code: &Code<'_>,
     size: u32,
     memory: &mut [u8],
     cores: &mut [SerialCore],
     history: History<'_>,
 ) -> Result<(), usize>
-    requires lines { AreLines code.now.bytes.now lines.now }
+    requires lines { AreFlats code.now.bytes.now lines.now }
     requires size { length memory.old ≡ size }
     requires closed { AllByRecursion (λ c. steps_of c ≤ 0) cores.old }
     ensures ok { OnOk result (list_run (setting_of code.now.bytes.now code.now.base size 0 0) memory.old

@@ -8,7 +8,7 @@
 ghost use Rattle.std.specs.Prelude.{◌≡◌, ℕ, ◌+◌, ◌<◌, ◌^◌, ◌≤◌, length, map, Some, None, IfSome, option_map};
 ghost use Rattle.std.specs.Prelude.{if◌then◌else◌};
 ghost use Rattle.std.specs.List.{AllByRecursion};
-ghost use Rattle.ia_row.specs.Lines.{AreLines};
+ghost use Rattle.ia_flat.specs.FlatCode.{AreFlats};
 ghost use Rattle.tm_model.specs.Setting.{outside_at, setting_of, value_at};
 ghost use Rattle.tm_model.specs.State.{Closed, Halted, Midway, Opened};
 ghost use Rattle.tm_rule.specs.Rule.{StandsAt, outside_of};
@@ -23,8 +23,8 @@ use crate::pair::{PackedOutcome, Pair};
 use crate::serial_core::SerialCore;
 use crate::usual::usual_step;
 use ia_decode::Decoded;
+use ia_flat::FlatAt;
 use ia_regs::Regs;
-use ia_row::Line;
 use tm_core::takes_two_steps;
 use tm_model::Outcome;
 use tm_rule::{Code, OutsideResult, Stop, fallback, fetch, row};
@@ -236,7 +236,7 @@ fn registers_after_abort(code: &Code<'_>, regs: &Regs, status: u32) -> Regs
 
 // A step of a core that has made so many steps since its XBEGIN.
 fn open_step(
-    lines: &[Line],
+    lines: &[FlatAt],
     code: &Code<'_>,
     size: u32,
     memory: &mut [u8],
@@ -244,7 +244,7 @@ fn open_step(
     steps: u64,
     outcome: &Outcome,
 ) -> Option<SerialCore>
-    requires lines { AreLines code.now.bytes.now lines.now }
+    requires lines { AreFlats code.now.bytes.now lines.now }
     requires size { length memory.old ≡ size }
     requires few { steps + 1 < 2 ^ 64 }
     ensures step { after_step_of (setting_of code.now.bytes.now code.now.base size 0 0) memory.old
@@ -270,14 +270,14 @@ fn open_step(
 
 // The core after its step of this outcome, where the rules of a run allow that; memory changes with it.
 fn core_step(
-    lines: &[Line],
+    lines: &[FlatAt],
     code: &Code<'_>,
     size: u32,
     memory: &mut [u8],
     core: &SerialCore,
     outcome: &Outcome,
 ) -> Option<SerialCore>
-    requires lines { AreLines code.now.bytes.now lines.now }
+    requires lines { AreFlats code.now.bytes.now lines.now }
     requires size { length memory.old ≡ size }
     requires few { steps_of core.now + 1 < 2 ^ 64 }
     ensures step { after_step_of (setting_of code.now.bytes.now code.now.base size 0 0) memory.old (core_of core.now)
@@ -307,14 +307,14 @@ fn core_step(
 // are then of no use.
 #[inline(never)]
 fn other_step(
-    lines: &[Line],
+    lines: &[FlatAt],
     code: &Code<'_>,
     size: u32,
     memory: &mut [u8],
     core: &mut SerialCore,
     outcome: &PackedOutcome,
 ) -> bool
-    requires lines { AreLines code.now.bytes.now lines.now }
+    requires lines { AreFlats code.now.bytes.now lines.now }
     requires size { length memory.old ≡ size }
     requires few { steps_of core.old + 1 < 2 ^ 64 }
     ensures step { after_step_of (setting_of code.now.bytes.now code.now.base size 0 0) memory.old (core_of core.old)
@@ -333,14 +333,14 @@ fn other_step(
 /// One step of a run: the pair of a core and its outcome. False where the rules of a run do not allow it.
 #[inline(always)]
 pub fn step(
-    lines: &[Line],
+    lines: &[FlatAt],
     code: &Code<'_>,
     size: u32,
     memory: &mut [u8],
     cores: &mut [SerialCore],
     pair: &Pair,
 ) -> bool
-    requires lines { AreLines code.now.bytes.now lines.now }
+    requires lines { AreFlats code.now.bytes.now lines.now }
     requires size { length memory.old ≡ size }
     requires few { AllByRecursion (λ c. steps_of c + 1 < 2 ^ 64) cores.old }
     ensures step { list_step (setting_of code.now.bytes.now code.now.base size 0 0) memory.old (map core_of cores.old)

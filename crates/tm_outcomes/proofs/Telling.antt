@@ -14,7 +14,7 @@ use Rattle.tm_outcomes.specs.declared.searching.Search.{Search}
 use Rattle.tm_outcomes.specs.declared.searching.Searching.{Searching}
 use Rattle.tm_outcomes.specs.declared.stops.ReachedStop.{ReachedStop}
 use Rattle.tm_outcomes.specs.declared.stuck.Stuck.{Stuck}
-use Rattle.tm_outcomes.specs.declared.table.Told.{Told}
+use Rattle.tm_outcomes.specs.declared.table.FoundOutcome.{FoundOutcome}
 use Rattle.tm_outcomes.specs.declared.trial.Trial.{Trial}
 use Rattle.tm_outcomes.specs.declared.violations.Violation.{Violation}
 use Rattle.tm_outcomes.specs.declared.written.Written.{Written}
@@ -30,9 +30,9 @@ module _ (trial : Trial) (most done : ℕ) (search : Searching) (schedules : Lis
   is_search =
       let outcomes : search.found.outcomes.items ≡ told.outcomes.items = sym (ap (λ v. v.items) of.outcomes) in
       record {
-        told = subst (λ (all : List Told). All (IsTold trial) all) outcomes searching.found.told;
-        once = subst (λ (all : List Told). AreDistinct all) outcomes searching.found.once;
-        whole = λ _ schedule values outcome. subst (λ (all : List Told). AreTold all values) outcomes
+        told = subst (λ (all : List FoundOutcome). All (IsTold trial) all) outcomes searching.found.told;
+        once = subst (λ (all : List FoundOutcome). AreDistinct all) outcomes searching.found.once;
+        whole = λ _ schedule values outcome. subst (λ (all : List FoundOutcome). AreTold all values) outcomes
             (all_told trial most done search schedules searching whole schedule values outcome);
         limit = λ cut. absurd (false≢true (sym of.is_cut ∙ cut));
         few = (let f = searching.few in let s = of.states in omega arith);
@@ -86,8 +86,8 @@ module _ (trial : Trial) (most : ℕ) (search : Searching) (told : Search) (full
   is_cut_search =
       let outcomes : search.found.outcomes.items ≡ told.outcomes.items = sym (ap (λ v. v.items) of.outcomes) in
       record {
-        told = subst (λ (all : List Told). All (IsTold trial) all) outcomes found.told;
-        once = subst (λ (all : List Told). AreDistinct all) outcomes found.once;
+        told = subst (λ (all : List FoundOutcome). All (IsTold trial) all) outcomes found.told;
+        once = subst (λ (all : List FoundOutcome). AreDistinct all) outcomes found.once;
         whole = λ whole. absurd (false≢true (sym whole ∙ of.is_cut));
         limit = λ _. of.states ∙ full;
         few = (let s = of.states in omega arith);

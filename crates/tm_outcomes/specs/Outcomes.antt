@@ -18,7 +18,7 @@ use Rattle.tm_outcomes.specs.declared.trial.Item.TheVariants.{Register, Memory}
 use Rattle.tm_outcomes.specs.declared.trial.Trial.{Trial}
 use Rattle.tm_outcomes.specs.declared.fault.SearchFault.{SearchFault}
 use Rattle.tm_outcomes.specs.declared.fault.SearchFault.TheVariants.{BadLimits, NoMemory}
-use Rattle.tm_outcomes.specs.declared.table.Told.{Told}
+use Rattle.tm_outcomes.specs.declared.table.FoundOutcome.{FoundOutcome}
 use Rattle.tm_outcomes.specs.declared.searching.Search.{Search}
 
 -- ---- what is shown
@@ -104,16 +104,16 @@ pub record IsOutcome (trial : Trial) (schedule : List Pick) (values : List ℕ) 
   pub has_ended : HasEnded end.state
   pub shown : values ≡ map (value_of end.state) trial.items.now
 
-abbrev pub IsTold : Trial → Told → Type 0
+abbrev pub IsTold : Trial → FoundOutcome → Type 0
 IsTold trial told = IsOutcome trial told.schedule.items told.values.items × IsSparing trial told.schedule.items
 
 -- these values are among the outcomes
-abbrev pub AreTold : List Told → List ℕ → Type 0
+abbrev pub AreTold : List FoundOutcome → List ℕ → Type 0
 AreTold [] values = ⊥
 AreTold (told ∷ all) values = (told.values.items ≡ values) ⊎ AreTold all values
 
 -- no two have the same values
-abbrev pub AreDistinct : List Told → Type 0
+abbrev pub AreDistinct : List FoundOutcome → Type 0
 AreDistinct [] = ⊤
 AreDistinct (told ∷ all) = ¬ AreTold all told.values.items × AreDistinct all
 

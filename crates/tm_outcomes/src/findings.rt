@@ -16,7 +16,7 @@ use crate::bench::Bench;
 use crate::fault::SearchFault;
 use crate::nodes::{Node, schedule_of};
 use crate::stops::{ReachedStop, take_up_stops};
-use crate::table::{Told, take_up};
+use crate::table::{FoundOutcome, take_up};
 use crate::trial::Trial;
 use crate::violations::{Violation, take_up_checks};
 use std::alloc::{AllocError, Global};
@@ -25,7 +25,7 @@ use std::alloc::{AllocError, Global};
 #[derive(Drop)]
 pub struct Findings {
     /// The outcomes.
-    pub outcomes: Vec<Told>,
+    pub outcomes: Vec<FoundOutcome>,
     /// The nodes of states where each core has stopped.
     pub ends: Vec<u32>,
     /// The stops that are looked for.

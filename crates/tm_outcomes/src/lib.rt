@@ -51,7 +51,7 @@ pub use fault::SearchFault;
 pub use searching::{Search, outcomes, outcomes_watched};
 pub use stops::ReachedStop;
 pub use stuck::Stuck;
-pub use table::Told;
+pub use table::FoundOutcome;
 pub use trial::{Events, Item, Trial};
 pub use violations::Violation;
 pub use watching::{Unwatched, Watching};

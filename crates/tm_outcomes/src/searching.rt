@@ -32,7 +32,7 @@ use crate::links::Link;
 use crate::nodes::Node;
 use crate::stops::ReachedStop;
 use crate::stuck::Stuck;
-use crate::table::Told;
+use crate::table::FoundOutcome;
 use crate::trial::{Events, Trial};
 use crate::verdict::{Verdict, verdict_of};
 use crate::violations::Violation;
@@ -48,7 +48,7 @@ const STATES_BETWEEN: u32 = 256;
 #[derive(Debug, Drop)]
 pub struct Search {
     /// The outcomes, in the order in which they were found.
-    pub outcomes: Vec<Told>,
+    pub outcomes: Vec<FoundOutcome>,
     /// How many states were found.
     pub states: u32,
     /// Whether the search ended at its limit on states.

@@ -5,7 +5,7 @@
 
 ghost use Rattle.std.specs.Prelude.{◌≡◌, ◌<◌, ℕ, All, IfNone, IfOk, IfSome, List, Some, length, slice_get};
 ghost use Rattle.tm_outcomes.specs.Outcomes.{AreDistinct, AreTold, IsOutcome, IsSparing, IsTold};
-ghost use Rattle.tm_outcomes.specs.declared.table.Told.{Told};
+ghost use Rattle.tm_outcomes.specs.declared.table.FoundOutcome.{FoundOutcome};
 
 use crate::trial::Trial;
 use std::alloc::AllocError;
@@ -13,7 +13,7 @@ use tm_model::Pick;
 
 /// An outcome.
 #[derive(Debug, Drop)]
-pub struct Told {
+pub struct FoundOutcome {
     /// The value of each item.
     pub values: Vec<u32>,
     /// The steps of a schedule that shows it: of those found, one with the fewest steps that are followed.
@@ -23,9 +23,9 @@ pub struct Told {
 }
 
 // The outcome with these values.
-fn index_of(table: &[Told], values: &[u32]) -> Option<usize>
+fn index_of(table: &[FoundOutcome], values: &[u32]) -> Option<usize>
     ensures within { IfSome result (λ index. index < length table.now) }
-    ensures this { IfSome result (λ index. (told : Told) → slice_get table.now index ≡ Some told →
+    ensures this { IfSome result (λ index. (told : FoundOutcome) → slice_get table.now index ≡ Some told →
         told.values.items ≡ values.now) }
     ensures told { IfSome result (λ index. AreTold table.now values.now) }
     ensures none { IfNone result (¬ AreTold table.now values.now) }
@@ -41,7 +41,7 @@ fn index_of(table: &[Told], values: &[u32]) -> Option<usize>
 /// Takes up an outcome, that of this schedule.
 pub fn take_up(
     trial: &Trial<'_>,
-    table: &mut Vec<Told>,
+    table: &mut Vec<FoundOutcome>,
     values: Vec<u32>,
     schedule: Vec<Pick>,
 ) -> Result<(), AllocError>
@@ -58,7 +58,7 @@ pub fn take_up(
         table[index].ends = ends.saturating_add(1);
         return Ok(());
     }
-    table.push(Told {
+    table.push(FoundOutcome {
         values,
         schedule,
         ends: 1,

@@ -2,7 +2,7 @@ use Rattle.std.proofs.Common.{◌∙◌, sym, ap, subst, List, ℕ, false, take_
 use Rattle.std.proofs.lemmas.Option.{get_or_from_slice_get}
 use Rattle.std.specs.Cmp.Lexicographic.{same_text, told_text}
 use Rattle.tm_outcomes.specs.Outcomes.{AreTold}
-use Rattle.tm_outcomes.specs.declared.table.Told.{Told}
+use Rattle.tm_outcomes.specs.declared.table.FoundOutcome.{FoundOutcome}
 use Rattle.tm_outcomes.proofs.Tables.{told_at, untold_more}
 use Rattle.tm_outcomes.proofs.table.index_of.Goals as goal
 
@@ -15,7 +15,7 @@ returns-then-eq-clause-told c =
 
 pub returns-then-eq-clause-this : goal.returns-then-eq-clause-this
 returns-then-eq-clause-this c = λ told is.
-    ap (λ (t : Told). t.values.items)
+    ap (λ (t : FoundOutcome). t.values.items)
     (sym (get_or_from_slice_get c.args.table.now c.loop-index.index told c.index-table-index.result is))
     ∙ (sym c.as_slice.ensures.value ∙ same_text c.as_slice.result.now c.args.values.now c.if-eq.ensures)
 
@@ -30,5 +30,5 @@ loop-index-preserved c =
 
 pub returns-clause-none : goal.returns-clause-none
 returns-clause-none c =
-    subst (λ (table : List Told). ¬ AreTold table c.args.values.now)
+    subst (λ (table : List FoundOutcome). ¬ AreTold table c.args.values.now)
     (take_all c.loop-index.index c.args.table.now c.loop-index-test.false) c.loop-index.invariant

@@ -11,7 +11,7 @@ use Rattle.tm_outcomes.specs.declared.links.Link.{Link}
 use Rattle.tm_outcomes.specs.declared.nodes.Node.{Node}
 use Rattle.tm_outcomes.specs.declared.searching.Searching.{Searching}
 use Rattle.tm_outcomes.specs.declared.stops.ReachedStop.{ReachedStop}
-use Rattle.tm_outcomes.specs.declared.table.Told.{Told}
+use Rattle.tm_outcomes.specs.declared.table.FoundOutcome.{FoundOutcome}
 use Rattle.tm_outcomes.specs.declared.violations.Violation.{Violation}
 use Rattle.tm_outcomes.proofs.Kept.{newest_added, newest_none, older_first}
 use Rattle.tm_outcomes.proofs.Trees.{first_tree}
@@ -41,8 +41,8 @@ returns-clause-done c = λ trial.
         explored =
             record { followed = λ index below. absurd (omega arith); shown = λ index below. absurd (omega arith) };
         found = record {
-          told = subst (λ (os : List Told). All (IsTold trial) os) (sym outcomes) (All-nil (IsTold trial));
-          once = subst (λ (os : List Told). AreDistinct os) (sym outcomes) tt;
+          told = subst (λ (os : List FoundOutcome). All (IsTold trial) os) (sym outcomes) (All-nil (IsTold trial));
+          once = subst (λ (os : List FoundOutcome). AreDistinct os) (sym outcomes) tt;
           stops = subst (λ (ss : List ReachedStop). AreStops trial ss) (sym stops)
               (record { told = All-nil (IsStop trial); once = λ i j d before below. absurd (omega arith) });
           violations = subst (λ (vs : List Violation). AreViolations trial vs) (sym violations)
