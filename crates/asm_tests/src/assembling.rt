@@ -2,7 +2,7 @@
 //! worked rows of `doc_tests` show.
 
 use crate::programs::{ELIDED, WORKED};
-use ia_asm::{assemble, assemble_image};
+use ia_asm::{CodeLine, SymbolKind, assemble, assemble_image};
 use std::alloc::Global;
 use std::test::Fail;
 
@@ -108,6 +108,26 @@ fn faults_without_a_listing(rt: HostRuntime) {
             "{source:?}"
         );
     }
+}
+
+// An `equ` is no label, and a line of data no instruction.
+#[test]
+fn lines_and_kinds(rt: HostRuntime) {
+    let source = b"half equ 2\nstart: nop\n       mov eax, half\nsection .data\nx: db half\n";
+    let program = assemble_image(rt.alloc(), source).expect(&rt, "is assembled");
+    let kinds = [SymbolKind::Equate, SymbolKind::Label, SymbolKind::Label];
+    let lines = [
+        CodeLine {
+            address: 0x100,
+            line: 2,
+        },
+        CodeLine {
+            address: 0x101,
+            line: 3,
+        },
+    ];
+    assert!(rt; program.kinds.as_slice() == &kinds);
+    assert!(rt; program.lines.as_slice() == &lines);
 }
 
 #[test]

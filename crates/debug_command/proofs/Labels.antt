@@ -4,7 +4,7 @@ use Rattle.std.proofs.Common.{drop, length, get_or, drop-cons}
 use Rattle.std.specs.Prelude.{◌==◌}
 use Rattle.std.specs.List.{flat_map}
 use Rattle.std.proofs.lemmas.Bool.{eq-eqb, ne_eqb}
-use Rattle.debug_command.specs.declared.symbol.Symbol.{Symbol}
+use Rattle.symbols.specs.declared.symbol.Symbol.{Symbol}
 use Rattle.ia_text.specs.Listing.{listing_line}
 use Rattle.debug_command.specs.Places.{labelled_line, names_text}
 use Rattle.std.proofs.lemmas.Grind.{flat_map-append}

@@ -1,6 +1,6 @@
 pub mod Words
 pub mod Numbers
-pub mod Symbols
+pub mod Addresses
 pub mod Places
 pub mod Refusals
 pub mod Commands

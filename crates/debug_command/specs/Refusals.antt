@@ -7,12 +7,12 @@ use Rattle.debug_command.specs.declared.manner.Manner.{Manner}
 use Rattle.debug_command.specs.declared.manner.Manner.TheVariants.{Plain, Spoken}
 use Rattle.debug_command.specs.declared.refusal.Range.{Range}
 use Rattle.debug_command.specs.declared.refusal.Range.TheVariants.{Addresses, Bytes, Lines, Made, Steps}
-use Rattle.debug_command.specs.declared.refusal.Refusal.{Refusal}
-use Rattle.debug_command.specs.declared.refusal.Refusal.TheVariants.{UnknownCommand, LongLine, BadArgument}
-use Rattle.debug_command.specs.declared.refusal.Refusal.TheVariants.{NoSuchSymbol, NoSuchCore, OutOfRange}
-use Rattle.debug_command.specs.declared.refusal.Refusal.TheVariants.{LimitReached, TooManyBreakpoints}
+use Rattle.debug_command.specs.declared.refusal.CommandRefusal.{CommandRefusal}
+use Rattle.debug_command.specs.declared.refusal.CommandRefusal.TheVariants.{UnknownCommand, LongLine, BadArgument}
+use Rattle.debug_command.specs.declared.refusal.CommandRefusal.TheVariants.{NoSuchSymbol, NoSuchCore, OutOfRange}
+use Rattle.debug_command.specs.declared.refusal.CommandRefusal.TheVariants.{LimitReached, TooManyBreakpoints}
 
-abbrev pub refusal_code : Refusal → ℕ
+abbrev pub refusal_code : CommandRefusal → ℕ
 refusal_code UnknownCommand = 70
 refusal_code LongLine = 70
 refusal_code (BadArgument name) = 71
@@ -23,7 +23,7 @@ refusal_code LimitReached = 74
 refusal_code TooManyBreakpoints = 75
 
 -- the number alone
-unfoldable pub plain_line : Refusal → List ℕ
+unfoldable pub plain_line : CommandRefusal → List ℕ
 plain_line UnknownCommand = codes "error 70\n"
 plain_line LongLine = codes "error 70\n"
 plain_line (BadArgument name) = codes "error 71\n"
@@ -62,7 +62,7 @@ unfoldable pub cores_line : ℕ → List ℕ
 cores_line count = codes "error 72: no such core; of cores there are " ++ number_text count ++ line_end
 
 -- words behind the number
-unfoldable pub spoken_line : Refusal → List ℕ
+unfoldable pub spoken_line : CommandRefusal → List ℕ
 spoken_line UnknownCommand = codes "error 70: no such command; help lists them\n"
 spoken_line LongLine = codes "error 70: a line has at most 256 bytes\n"
 spoken_line (BadArgument name) = arguments_line name
@@ -72,6 +72,6 @@ spoken_line (OutOfRange range) = range_line range
 spoken_line LimitReached = codes "error 74: the session has made its most steps\n"
 spoken_line TooManyBreakpoints = codes "error 75: 64 breakpoints are set\n"
 
-abbrev pub refusal_line : Manner → Refusal → List ℕ
+abbrev pub refusal_line : Manner → CommandRefusal → List ℕ
 refusal_line Plain refusal = plain_line refusal
 refusal_line Spoken refusal = spoken_line refusal

@@ -2,10 +2,11 @@
 
 ghost use Rattle.std.specs.Prelude.{◌≡◌, ◌==◌, ◌||◌, ◌<◌, IfSome, Some, length};
 ghost use Rattle.std.specs.Option.{option_or};
-ghost use Rattle.debug_command.specs.Symbols.{address_in, bytes_behind_sign, is_sign, signed_sum, sum_at, symbol_in};
+ghost use Rattle.debug_command.specs.Addresses.{address_in, bytes_behind_sign, is_sign, signed_sum, sum_at};
+ghost use Rattle.symbols.specs.Symbols.{symbol_in};
 
 use crate::number::number;
-use crate::symbol::{Symbol, value_of};
+use symbols::{Symbol, value_of};
 
 fn is_sign(byte: u8) -> bool
     ensures { result ≡ is_sign byte }

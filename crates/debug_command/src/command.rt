@@ -2,7 +2,7 @@
 
 ghost use Rattle.std.specs.Prelude.{◌≡◌};
 ghost use Rattle.debug_command.specs.Numbers.{number_in};
-ghost use Rattle.debug_command.specs.Symbols.{address_in};
+ghost use Rattle.debug_command.specs.Addresses.{address_in};
 ghost use Rattle.debug_command.specs.Commands.{address_and_number, address_result, command_alone, command_named};
 ghost use Rattle.debug_command.specs.Commands.{command_of, name_of, number_result, one_address, one_number, one_step};
 ghost use Rattle.debug_command.specs.Commands.{step_result};
@@ -10,9 +10,9 @@ ghost use Rattle.tm_schedule.specs.Picks.{pick_of_word};
 
 use crate::address::read_address;
 use crate::number::number;
-use crate::refusal::Refusal;
-use crate::symbol::Symbol;
+use crate::refusal::CommandRefusal;
 use crate::words::split_word;
+use symbols::Symbol;
 use tm_model::Event;
 use tm_schedule::pick_of_word;
 
@@ -36,7 +36,7 @@ pub enum CommandName {
 
 /// A command with its numbers, of which none is in its range for sure.
 #[derive(Clone, Copy, PartialEq, Eq)]
-pub enum Command {
+pub enum DebugCommand {
     /// A step of this core, under this event or under none.
     Step(u64, Option<Event>),
     /// So many steps, round by round.
@@ -101,35 +101,35 @@ fn name_of(word: &[u8]) -> Option<CommandName>
 }
 
 // The number that a word writes.
-fn number_of(name: CommandName, word: &[u8]) -> Result<u64, Refusal>
+fn number_of(name: CommandName, word: &[u8]) -> Result<u64, CommandRefusal>
     ensures { result ≡ number_result name (number_in word.now) }
 {
-    number(word).ok_or(Refusal::BadArgument(name))
+    number(word).ok_or(CommandRefusal::BadArgument(name))
 }
 
 // The address that a word writes, by a number or a symbol.
-fn address_of(name: CommandName, symbols: &[Symbol], word: &[u8]) -> Result<u64, Refusal>
+fn address_of(name: CommandName, symbols: &[Symbol], word: &[u8]) -> Result<u64, CommandRefusal>
     ensures { result ≡ address_result name word.now (address_in symbols.now word.now) }
 {
     match read_address(symbols, word) {
         Some(address) => Ok(address),
-        None if word.is_empty() => Err(Refusal::BadArgument(name)),
-        None => Err(Refusal::NoSuchSymbol),
+        None if word.is_empty() => Err(CommandRefusal::BadArgument(name)),
+        None => Err(CommandRefusal::NoSuchSymbol),
     }
 }
 
 // The one number that is given.
-fn one(name: CommandName, first: &[u8], second: &[u8]) -> Result<u64, Refusal>
+fn one(name: CommandName, first: &[u8], second: &[u8]) -> Result<u64, CommandRefusal>
     ensures { result ≡ one_number name first.now second.now }
 {
     if !second.is_empty() {
-        return Err(Refusal::BadArgument(name));
+        return Err(CommandRefusal::BadArgument(name));
     }
     number_of(name, first)
 }
 
 // The step that a word says: a number is a core under no event, and any other word that of a schedule.
-fn step_of(word: &[u8]) -> Result<(u64, Option<Event>), Refusal>
+fn step_of(word: &[u8]) -> Result<(u64, Option<Event>), CommandRefusal>
     ensures { result ≡ step_result (number_in word.now) (pick_of_word word.now) }
 {
     if let Some(core) = number(word) {
@@ -137,16 +137,16 @@ fn step_of(word: &[u8]) -> Result<(u64, Option<Event>), Refusal>
     }
     match pick_of_word(word) {
         Some(pick) => Ok((u64::from(pick.core), pick.event)),
-        None => Err(Refusal::BadArgument(CommandName::Step)),
+        None => Err(CommandRefusal::BadArgument(CommandName::Step)),
     }
 }
 
 // The one step that is given.
-fn one_step(first: &[u8], second: &[u8]) -> Result<(u64, Option<Event>), Refusal>
+fn one_step(first: &[u8], second: &[u8]) -> Result<(u64, Option<Event>), CommandRefusal>
     ensures { result ≡ one_step first.now second.now }
 {
     if !second.is_empty() {
-        return Err(Refusal::BadArgument(CommandName::Step));
+        return Err(CommandRefusal::BadArgument(CommandName::Step));
     }
     step_of(first)
 }
@@ -157,11 +157,11 @@ fn one_address(
     symbols: &[Symbol],
     first: &[u8],
     second: &[u8],
-) -> Result<u64, Refusal>
+) -> Result<u64, CommandRefusal>
     ensures { result ≡ one_address name symbols.now first.now second.now }
 {
     if !second.is_empty() {
-        return Err(Refusal::BadArgument(name));
+        return Err(CommandRefusal::BadArgument(name));
     }
     address_of(name, symbols, first)
 }
@@ -173,11 +173,11 @@ fn two(
     first: &[u8],
     second: &[u8],
     third: &[u8],
-) -> Result<(u64, u64), Refusal>
+) -> Result<(u64, u64), CommandRefusal>
     ensures { result ≡ address_and_number name symbols.now first.now second.now third.now }
 {
     if !third.is_empty() {
-        return Err(Refusal::BadArgument(name));
+        return Err(CommandRefusal::BadArgument(name));
     }
     let address = address_of(name, symbols, first)?;
     let number = number_of(name, second)?;
@@ -185,13 +185,17 @@ fn two(
 }
 
 // A command without arguments.
-fn alone(name: CommandName, first: &[u8], command: Command) -> Result<Command, Refusal>
+fn alone(
+    name: CommandName,
+    first: &[u8],
+    command: DebugCommand,
+) -> Result<DebugCommand, CommandRefusal>
     ensures { result ≡ command_alone name first.now command }
 {
     if first.is_empty() {
         Ok(command)
     } else {
-        Err(Refusal::BadArgument(name))
+        Err(CommandRefusal::BadArgument(name))
     }
 }
 
@@ -202,43 +206,43 @@ fn command_named(
     first: &[u8],
     second: &[u8],
     third: &[u8],
-) -> Result<Command, Refusal>
+) -> Result<DebugCommand, CommandRefusal>
     ensures { result ≡ command_named name symbols.now first.now second.now third.now }
 {
     match name {
         CommandName::Step => {
             let (core, event) = one_step(first, second)?;
-            Ok(Command::Step(core, event))
+            Ok(DebugCommand::Step(core, event))
         }
-        CommandName::Run => Ok(Command::Run(one(name, first, second)?)),
-        CommandName::Next => Ok(Command::Next(one(name, first, second)?)),
-        CommandName::Back => Ok(Command::Back(one(name, first, second)?)),
-        CommandName::Break => Ok(Command::Break(one_address(name, symbols, first, second)?)),
-        CommandName::Clear => Ok(Command::Clear(one_address(name, symbols, first, second)?)),
-        CommandName::Regs => Ok(Command::Regs(one(name, first, second)?)),
-        CommandName::Sets => Ok(Command::Sets(one(name, first, second)?)),
-        CommandName::Why => Ok(Command::Why(one(name, first, second)?)),
+        CommandName::Run => Ok(DebugCommand::Run(one(name, first, second)?)),
+        CommandName::Next => Ok(DebugCommand::Next(one(name, first, second)?)),
+        CommandName::Back => Ok(DebugCommand::Back(one(name, first, second)?)),
+        CommandName::Break => Ok(DebugCommand::Break(one_address(name, symbols, first, second)?)),
+        CommandName::Clear => Ok(DebugCommand::Clear(one_address(name, symbols, first, second)?)),
+        CommandName::Regs => Ok(DebugCommand::Regs(one(name, first, second)?)),
+        CommandName::Sets => Ok(DebugCommand::Sets(one(name, first, second)?)),
+        CommandName::Why => Ok(DebugCommand::Why(one(name, first, second)?)),
         CommandName::Mem => {
             let (at, count) = two(name, symbols, first, second, third)?;
-            Ok(Command::Mem(at, count))
+            Ok(DebugCommand::Mem(at, count))
         }
         CommandName::List => {
             let (at, count) = two(name, symbols, first, second, third)?;
-            Ok(Command::List(at, count))
+            Ok(DebugCommand::List(at, count))
         }
-        CommandName::Help => alone(name, first, Command::Help),
-        CommandName::Quit => alone(name, first, Command::Quit),
+        CommandName::Help => alone(name, first, DebugCommand::Help),
+        CommandName::Quit => alone(name, first, DebugCommand::Quit),
     }
 }
 
 /// The command of a line that is not blank, whose addresses may be written by these symbols.
 #[tactic(auto, unfolding(crate::specs::Commands::command_of))]
-pub fn read_command(symbols: &[Symbol], line: &[u8]) -> Result<Command, Refusal>
+pub fn read_command(symbols: &[Symbol], line: &[u8]) -> Result<DebugCommand, CommandRefusal>
     ensures { result ≡ command_of symbols.now line.now }
 {
     let (word, rest) = split_word(line);
     let Some(name) = name_of(word) else {
-        return Err(Refusal::UnknownCommand);
+        return Err(CommandRefusal::UnknownCommand);
     };
     let (first, rest) = split_word(rest);
     let (second, rest) = split_word(rest);

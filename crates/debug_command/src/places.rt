@@ -1,37 +1,16 @@
 //! What labels say of an address.
 
-ghost use Rattle.std.specs.Prelude.{◌≡◌, ◌-◌, ◌==◌, ◌≤◌, ◌++◌, IfOk, Some, codes, find, length};
-ghost use Rattle.std.specs.Option.{option_copied};
-ghost use Rattle.debug_command.specs.declared.symbol.Symbol.{Symbol};
+ghost use Rattle.std.specs.Prelude.{◌≡◌, ◌-◌, ◌≤◌, ◌++◌, IfOk, Some, codes, length};
 ghost use Rattle.arrayvec.specs.ArrayVec.{array_vec_len};
 ghost use Rattle.ia_text.specs.Listing.{shown_bytes};
 ghost use Rattle.text_out.specs.Writing.{Writes};
-ghost use Rattle.debug_command.specs.Places.{distance_text, label_near, label_text, labelled_line, name_line};
-ghost use Rattle.debug_command.specs.Places.{names_text, nearest};
+ghost use Rattle.debug_command.specs.Places.{distance_text, label_text, labelled_line, name_line, names_text};
 ghost use Rattle.debug_command.specs.Places.{place_text};
 
-use crate::symbol::Symbol;
 use ia_text::write_line;
+use symbols::{Symbol, first_nearest};
 use text_out::page::{Page, push, push_number};
 use text_out::{Out, WriteFault};
-
-// The greatest address of a label up to this one.
-fn nearest(labels: &[Symbol], address: u32) -> Option<u32>
-    ensures { result ≡ nearest labels.now address }
-{
-    labels
-        .iter()
-        .map(|label| label.value)
-        .filter(|value| *value <= address)
-        .max()
-}
-
-// The first label at this address.
-fn label_at(labels: &[Symbol], at: u32) -> Option<&Symbol>
-    ensures { option_copied result ≡ find (λ (label : Symbol). label.value == at) labels.now }
-{
-    labels.iter().find(|label| label.value == at)
-}
 
 // Adds a distance, unless it is 0, and the closing bracket.
 fn push_back(row: &mut Page, distance: u32)
@@ -59,20 +38,17 @@ fn write_label<O: Out>(label: &Symbol, address: u32, out: &mut O) -> Result<(), 
     ensures { Writes (O.device out.old) (O.device out.new) (label_text (Some label.now) address) result }
 {
     let mut back = Page::new();
-    push_back(&mut back, address.saturating_sub(label.value));
+    push_back(&mut back, address.saturating_sub(label.value()));
     out.put(b" <")?;
-    write_name(label.name.as_slice(), back.as_slice(), out)
+    write_name(label.shown(), back.as_slice(), out)
 }
 
-/// Writes the label at an address, or the nearest below with the distance, as ` <loop+0x4>`; nothing where there is
-/// none.
+/// Writes the label at an address, or the nearest below with the distance, as ` <loop+0x4>`, of several the first;
+/// nothing where there is none. Names are written as they are shown.
 pub fn write_place<O: Out>(labels: &[Symbol], address: u32, out: &mut O) -> Result<(), WriteFault>
     ensures { Writes (O.device out.old) (O.device out.new) (place_text labels.now address) result }
 {
-    let Some(near) = nearest(labels, address) else {
-        return Ok(());
-    };
-    match label_at(labels, near) {
+    match first_nearest(labels, u64::from(address) + 1) {
         Some(label) => write_label(label, address, out),
         None => Ok(()),
     }
@@ -82,8 +58,8 @@ pub fn write_place<O: Out>(labels: &[Symbol], address: u32, out: &mut O) -> Resu
 fn write_name_line<O: Out>(label: &Symbol, at: u32, out: &mut O) -> Result<(), WriteFault>
     ensures { Writes (O.device out.old) (O.device out.new) (name_line at label.now) result }
 {
-    if label.value == at {
-        write_name(label.name.as_slice(), b":\n", out)
+    if label.value() == at {
+        write_name(label.shown(), b":\n", out)
     } else {
         Ok(())
     }

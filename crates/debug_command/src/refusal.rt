@@ -31,7 +31,7 @@ pub enum Range {
 
 /// Why a command was not done. The session goes on.
 #[derive(Clone, Copy, PartialEq, Eq, Debug, Drop, Error)]
-pub enum Refusal {
+pub enum CommandRefusal {
     /// The first word is no command (70).
     #[error("UnknownCommand")]
     UnknownCommand,
@@ -58,34 +58,34 @@ pub enum Refusal {
     TooManyBreakpoints,
 }
 
-impl Refusal {
+impl CommandRefusal {
     /// The fault's number.
     pub fn code(self) -> u8
         ensures { result ≡ refusal_code self }
     {
         match self {
-            Refusal::UnknownCommand | Refusal::LongLine => 70,
-            Refusal::BadArgument(_) | Refusal::NoSuchSymbol => 71,
-            Refusal::NoSuchCore(_) => 72,
-            Refusal::OutOfRange(_) => 73,
-            Refusal::LimitReached => 74,
-            Refusal::TooManyBreakpoints => 75,
+            CommandRefusal::UnknownCommand | CommandRefusal::LongLine => 70,
+            CommandRefusal::BadArgument(_) | CommandRefusal::NoSuchSymbol => 71,
+            CommandRefusal::NoSuchCore(_) => 72,
+            CommandRefusal::OutOfRange(_) => 73,
+            CommandRefusal::LimitReached => 74,
+            CommandRefusal::TooManyBreakpoints => 75,
         }
     }
 }
 
 // The line with the number alone.
 #[tactic(auto, unfolding(crate::specs::Refusals::plain_line))]
-fn plain_line(refusal: Refusal) -> &'static [u8]
+fn plain_line(refusal: CommandRefusal) -> &'static [u8]
     ensures { result.now ≡ plain_line refusal }
 {
     match refusal {
-        Refusal::UnknownCommand | Refusal::LongLine => b"error 70\n",
-        Refusal::BadArgument(_) | Refusal::NoSuchSymbol => b"error 71\n",
-        Refusal::NoSuchCore(_) => b"error 72\n",
-        Refusal::OutOfRange(_) => b"error 73\n",
-        Refusal::LimitReached => b"error 74\n",
-        Refusal::TooManyBreakpoints => b"error 75\n",
+        CommandRefusal::UnknownCommand | CommandRefusal::LongLine => b"error 70\n",
+        CommandRefusal::BadArgument(_) | CommandRefusal::NoSuchSymbol => b"error 71\n",
+        CommandRefusal::NoSuchCore(_) => b"error 72\n",
+        CommandRefusal::OutOfRange(_) => b"error 73\n",
+        CommandRefusal::LimitReached => b"error 74\n",
+        CommandRefusal::TooManyBreakpoints => b"error 75\n",
     }
 }
 
@@ -138,30 +138,36 @@ fn push_cores(row: &mut TextLine, count: u8)
 
 // Tells a refusal with words.
 #[tactic(auto, unfolding(crate::specs::Refusals::spoken_line))]
-fn speak<O: Out>(refusal: Refusal, out: &mut O) -> Result<(), WriteFault>
+fn speak<O: Out>(refusal: CommandRefusal, out: &mut O) -> Result<(), WriteFault>
     ensures { Writes (O.device out.old) (O.device out.new) (spoken_line refusal) result }
 {
     match refusal {
-        Refusal::UnknownCommand => out.put(b"error 70: no such command; help lists them\n")?,
-        Refusal::LongLine => out.put(b"error 70: a line has at most 256 bytes\n")?,
-        Refusal::BadArgument(name) => out.put(arguments_line(name))?,
-        Refusal::NoSuchSymbol => {
+        CommandRefusal::UnknownCommand => out.put(b"error 70: no such command; help lists them\n")?,
+        CommandRefusal::LongLine => out.put(b"error 70: a line has at most 256 bytes\n")?,
+        CommandRefusal::BadArgument(name) => out.put(arguments_line(name))?,
+        CommandRefusal::NoSuchSymbol => {
             out.put(b"error 71: no such symbol; an address is a number, SYM, SYM+N or SYM-N\n")?
         }
-        Refusal::NoSuchCore(count) => {
+        CommandRefusal::NoSuchCore(count) => {
             let mut row = TextLine::new();
             push_cores(&mut row, count);
             out.put(row.as_slice())?;
         }
-        Refusal::OutOfRange(range) => out.put(range_line(range))?,
-        Refusal::LimitReached => out.put(b"error 74: the session has made its most steps\n")?,
-        Refusal::TooManyBreakpoints => out.put(b"error 75: 64 breakpoints are set\n")?,
+        CommandRefusal::OutOfRange(range) => out.put(range_line(range))?,
+        CommandRefusal::LimitReached => out.put(
+            b"error 74: the session has made its most steps\n",
+        )?,
+        CommandRefusal::TooManyBreakpoints => out.put(b"error 75: 64 breakpoints are set\n")?,
     }
     Ok(())
 }
 
 /// Tells a refusal.
-pub fn refuse<O: Out>(manner: Manner, refusal: Refusal, out: &mut O) -> Result<(), WriteFault>
+pub fn refuse<O: Out>(
+    manner: Manner,
+    refusal: CommandRefusal,
+    out: &mut O,
+) -> Result<(), WriteFault>
     ensures { Writes (O.device out.old) (O.device out.new) (refusal_line manner refusal) result }
 {
     match manner {

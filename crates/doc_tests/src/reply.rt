@@ -1,9 +1,8 @@
 //! What a command line of `elide` comes to.
 
 use doc_lines::{Devices, Room, Told};
-use elide_command::Surroundings;
+use elide_device::{Silent, Surroundings, Terminals};
 use elide_program::Paths;
-use elide_setup::{Silent, Terminals};
 use elide_test::SharedPaths;
 use elide_trial::command;
 use std::alloc::{AllocError, Global};

@@ -11,9 +11,8 @@ mod progress;
 
 use ahead::ReadAhead;
 use arguments::{USUAL_ROOM, Words, read_words};
-use elide_command::Surroundings;
+use elide_device::{Surroundings, Terminals};
 use elide_program::Again;
-use elide_setup::Terminals;
 use elide_test::SystemPaths;
 use elide_trial::command;
 use environment::{asks_for_no_colors, asks_for_words};

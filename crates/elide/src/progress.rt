@@ -5,7 +5,7 @@
 //! silent. A failure of the device is passed over. When it is told is up to the commands.
 
 use arrayvec::ArrayString;
-use elide_setup::Progress;
+use elide_device::Progress;
 use std::fmt::Write;
 use std::time::{Clock, Duration, Instant};
 use text_out::Out;

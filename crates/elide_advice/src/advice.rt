@@ -13,7 +13,7 @@ use crate::page::Page;
 use crate::range::advise_range;
 use crate::source::advise_source;
 use crate::steps::{advise_core, advise_schedule, write_line};
-use crate::symbols::advise_symbol;
+use crate::unknown::advise_symbol;
 use elide_args::Subcommand;
 use elide_program::{Paths, ProgramFault};
 use elide_setup::{Fault, Refusal};

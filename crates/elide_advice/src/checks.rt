@@ -5,7 +5,7 @@
 //! all can be read, it is something else that is wanted, and said without a place.
 
 use crate::page::Page;
-use crate::symbols::{advise_unknown, unknown_in};
+use crate::unknown::{advise_unknown, unknown_in};
 use elide_args::Subcommand;
 use elide_checks::{Misread, Wanted, first_misread};
 use elide_program::{MOST_BYTES, Paths, ProgramFile};

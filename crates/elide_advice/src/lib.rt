@@ -20,6 +20,6 @@ mod page;
 mod range;
 mod source;
 mod steps;
-mod symbols;
+mod unknown;
 
 pub use advice::advise;

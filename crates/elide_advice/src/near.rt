@@ -1,6 +1,6 @@
 //! Names that are near a word: [`is_near`], by what is left of both without the front and the back that they share.
 //!
-//! Both go byte by byte, a call for each, so that who asks bounds the length of a name before: `symbols` does. A word
+//! Both go byte by byte, a call for each, so that who asks bounds the length of a name before: `unknown` does. A word
 //! is near to itself, too.
 
 /// Whether one edit leads from a word to a name, in any case: a character more, one less, another one, or two that are

@@ -4,7 +4,7 @@
 //! others hand on what they are given. [`Page::finish`] comes last: a page that is dropped before it writes no more.
 
 use elide_color::{ENDING, Style};
-use elide_setup::{Gathered, Lent};
+use elide_device::{Gathered, Lent};
 use elide_shell::{Mark, put_escaped};
 use std::fmt;
 use std::fmt::{Display, Write};

@@ -4,8 +4,9 @@ use Rattle.std.proofs.Common.{Some, None, refl, sym, arith, subst, length, take,
 use Rattle.std.proofs.Common.{leb-true, unwrap_or}
 use Rattle.ia_foreign.specs.Length.{foreign_length, length_by_maps, within}
 use Rattle.text_out.proofs.Writing.{rest_is}
-use Rattle.elide_asm.specs.Labelled.{IsLine, IsListed, address_of, foreign_bytes, mark_lines, marks_at}
-use Rattle.elide_asm.specs.declared.marks.Mark.{Mark}
+use Rattle.elide_asm.specs.Labelled.{IsLine, IsListed, address_of, foreign_bytes, mark_lines}
+use Rattle.symbols.specs.Marks.{marks_at}
+use Rattle.symbols.specs.declared.marks.Mark.{Mark}
 
 -- ---- an instruction has at most 15 bytes
 

@@ -1,8 +1,7 @@
 -- A listing with labels (docs/FORMATS.md, "Listing"): above each line stand the labels of its address, and code that is
 -- no instruction of the subset is shown whole, as bytes, with what it is.
-use Rattle.std.specs.Prelude.{◌≡◌, ◌≢◌, ◌⊎◌, ℕ, ◌+◌, ◌%◌, ◌^◌, ◌<◌, ◌≤◌, ◌==◌, true, false, Option, Some, None}
+use Rattle.std.specs.Prelude.{◌≡◌, ◌≢◌, ◌⊎◌, ℕ, ◌+◌, ◌%◌, ◌^◌, ◌<◌, ◌≤◌, true, false, Option, Some, None}
 use Rattle.std.specs.Prelude.{Result, Ok, Err, List, [], ◌++◌, codes, drop, flat_map, slice_index, take, unwrap_or}
-use Rattle.std.specs.List.{filter}
 use Rattle.ia_insn.specs.declared.fault.DecodeFault.{DecodeFault}
 use Rattle.ia_insn.specs.declared.fault.DecodeFault.TheVariants.{Short, NotInSubset, LockNotAllowed}
 use Rattle.ia_insn.specs.declared.op.Insn.{Insn}
@@ -11,13 +10,10 @@ use Rattle.ia_foreign.specs.Length.{foreign_length, is_foreign_code}
 use Rattle.ia_foreign.specs.declared.words.Words.{Words}
 use Rattle.ia_text.specs.Listing.{in_places, listing_line, shown_bytes}
 use Rattle.text_out.specs.Number.{eight_digits, number}
-use Rattle.elide_asm.specs.declared.marks.Mark.{Mark}
+use Rattle.symbols.specs.Marks.{marks_at}
+use Rattle.symbols.specs.declared.marks.Mark.{Mark}
 
 -- ---- labels
-
--- the labels at an address
-abbrev pub marks_at : List Mark → ℕ → List Mark
-marks_at marks at = filter (λ m. m.address == at) marks
 
 -- a line for each
 abbrev pub name_line : List ℕ → List ℕ

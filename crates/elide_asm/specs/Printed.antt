@@ -16,7 +16,7 @@ use Rattle.elide_program.specs.declared.fault.ProgramRefusal.{ProgramRefusal}
 use Rattle.elide_program.specs.declared.fault.ProgramRefusal.TheVariants as refusal
 use Rattle.elide_program.specs.declared.file.ProgramFile.{ProgramFile}
 use Rattle.elide_asm.specs.Labelled.{IsListed}
-use Rattle.elide_asm.specs.declared.marks.Mark.{Mark}
+use Rattle.symbols.specs.declared.marks.Mark.{Mark}
 
 -- ---- asm
 

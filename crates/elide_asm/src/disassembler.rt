@@ -70,7 +70,7 @@ fn list<O: Out + Drop>(file: &ProgramFile<'_>, out: O) -> Result<O, ProgramRefus
     }
 }
 
-// What [`list`] does, with the labels of the file's text.
+// What [`list`] does, with the labels of the file, which was read from this text.
 fn list_with_labels<O: Out + Drop>(
     alloc: Global,
     text: &[u8],
@@ -80,7 +80,7 @@ fn list_with_labels<O: Out + Drop>(
     ensures { IfOk result (λ given. AppendsLabelled file.now (O.device out).contents (O.device given).contents) }
 {
     let code = code_of(file)?;
-    let places = Places::of_text(alloc, text)?;
+    let places = Places::of_file(alloc, file, text)?;
     let listed = list_labelled(alloc, code, file.base(), &places, out);
     drop(places);
     listed

@@ -7,20 +7,20 @@ ghost use Rattle.std.specs.Prelude.{ℕ, IfOk, List, length};
 ghost use Rattle.std.specs.Io.KnownBytes.{Appends};
 ghost use Rattle.std.specs.List.Sorted.{IsNonDecreasingBy};
 ghost use Rattle.elide_asm.specs.Labelled.{IsListed};
-ghost use Rattle.elide_asm.specs.declared.marks.Mark.{Mark};
+ghost use Rattle.symbols.specs.declared.marks.Mark.{Mark};
 
 use crate::listing::write_listing;
-use crate::marks::{Mark, marks_of};
+use elide_device::Gathered;
 use elide_places::Places;
 use elide_program::{ProgramFault, ProgramRefusal};
-use elide_setup::Gathered;
 use std::alloc::Global;
+use symbols::{Mark, marks_of};
 use text_out::{Out, WriteFault};
 
 /// Writes the listing of some code at an address with these places' labels, and gives the device back.
 ///
 /// Above each line stands a line `NAME:` for each label at its address, whose name stands there as
-/// [`elide_places::Label::shown`] has it; of several in the order of the source or of the executable's table. Code that
+/// [`symbols::Symbol::shown`] has it; of several in the order of the source or of the executable's table. Code that
 /// is no instruction of the subset is shown by its bytes, with what it is: all bytes of the instruction, where its
 /// length is sure, but up to the next label. A label within an instruction of the subset is not written.
 ///

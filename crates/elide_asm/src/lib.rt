@@ -14,7 +14,6 @@ mod disassembler;
 mod foreign;
 mod labels;
 mod listing;
-mod marks;
 
 pub use assembler::asm;
 pub use disassembler::dis;

@@ -2,17 +2,18 @@
 //!
 //! [`write_listing`] writes at each address the labels, and below them one line. An instruction outside of the subset
 //! ends before a label in it, so that the label has its line; one of the subset is written whole, and a label in it is
-//! not. Its labels are sorted by `marks`, and lines of the subset written by `ia_text`'s calls.
+//! not. Its labels are sorted by `symbols`, and lines of the subset written by `ia_text`'s calls.
 
 ghost use Rattle.std.specs.Prelude.{◌≡◌, ◌<◌, ◌≤◌, ℕ, IfOk, List, length};
 ghost use Rattle.std.specs.List.Sorted.{IsNonDecreasingBy};
 ghost use Rattle.text_out.specs.Writing.{Wrote, Writes};
-ghost use Rattle.elide_asm.specs.Labelled.{IsBeforeLabel, IsLine, IsListed, mark_lines, marks_at, name_line};
+ghost use Rattle.elide_asm.specs.Labelled.{IsBeforeLabel, IsLine, IsListed, mark_lines, name_line};
+ghost use Rattle.symbols.specs.Marks.{marks_at};
 
 use crate::foreign::{outcome_text, write_foreign};
-use crate::marks::{Mark, standing_at};
 use ia_foreign::foreign_in;
 use ia_text::write_line;
+use symbols::{Mark, standing_at};
 use text_out::{Out, WriteFault};
 
 /// Writes the listing of some code at an address, with these labels, which stand in the order of their addresses.

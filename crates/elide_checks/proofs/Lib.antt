@@ -1,5 +1,5 @@
 mod Apart
-mod Zips
+pub mod Zips
 mod Named
 mod Asked
 mod Parts

@@ -1,7 +1,7 @@
 //! A whole command, over devices that are handed in.
 //!
 //! [`command`] reads the words: help, and words that make no subcommand, end there. Then `--color` and `--words` are
-//! looked at, before FILE; warnings are told when it is first read, the command is obeyed (`obeying`), and a refusal
+//! looked at, before FILE; warnings are told when it is read, the command is obeyed (`obeying`), and a refusal
 //! has its line and, where that is asked for, what is meant. `test` is not carried out here.
 
 ghost use Rattle.std.specs.Prelude.{◌≤◌};
@@ -9,13 +9,13 @@ ghost use Rattle.std.specs.Prelude.{◌≤◌};
 use crate::answer::Answer;
 use crate::look::Look;
 use crate::obeying::obey;
-use crate::surroundings::Surroundings;
 use crate::telling::tell;
 use elide_advice::advise;
 use elide_args::{CommandLine, NotASubcommand, Subcommand, command_line_of};
 use elide_color::When;
+use elide_device::{Progress, Surroundings};
 use elide_program::{Paths, WarnedPaths};
-use elide_setup::{Fault, Progress, Refusal};
+use elide_setup::{Fault, Refusal};
 use std::alloc::Global;
 use std::sync::Wait;
 use std::thread::Threads;
@@ -177,25 +177,6 @@ fn obey_warned<
     if let Some(option) = look.misused {
         return Err(Refusal::Usage(option));
     }
-    let mut warned = WarnedPaths::new(paths, err, program_of(subcommand), look.warnings());
+    let mut warned = WarnedPaths::new(paths, err, look.warnings());
     obey(rt, subcommand, &mut warned, input, out, look, progress)
-}
-
-// The path of the program that a subcommand works on.
-fn program_of<'s>(subcommand: &'s Subcommand<'_>) -> Option<&'s str> {
-    match subcommand {
-        Subcommand::Asm(options) => Some(options.file),
-        Subcommand::Dis(options) => Some(options.file),
-        Subcommand::Run(options) => Some(options.machine.file),
-        Subcommand::Threads(options) => Some(options.machine.file),
-        Subcommand::Replay(options) => Some(options.machine.file),
-        Subcommand::Debug(options) => Some(options.machine.file),
-        Subcommand::Gdb(options) => Some(options.machine.file),
-        Subcommand::Hunt(options) => Some(options.machine.file),
-        Subcommand::Outcomes(options) => Some(options.machine.file),
-        Subcommand::Stats(options) => Some(options.machine.file),
-        Subcommand::Draw(options) => Some(options.machine.file),
-        Subcommand::Page(options) => Some(options.machine.file),
-        Subcommand::Test(_) | Subcommand::Explain(_) => None,
-    }
 }

@@ -12,8 +12,6 @@ mod answer;
 mod dispatch;
 mod look;
 mod obeying;
-mod surroundings;
 mod telling;
 
 pub use dispatch::{carry_out, command, end_early, misused, refuse};
-pub use surroundings::Surroundings;

@@ -3,10 +3,9 @@
 //! [`Look::new`] refuses nothing: a value that says nothing counts as left out, so that the refusal for it has a look,
 //! too. `--color` is told before `--words`. The refusal is made in `dispatch`, and painting is `elide_color`'s.
 
-use crate::surroundings::Surroundings;
 use elide_args::CommandLine;
 use elide_color::{Colors, Painting, When};
-use elide_setup::Terminals;
+use elide_device::{Surroundings, Terminals};
 
 /// How what a command writes looks.
 #[derive(Clone, Copy)]

@@ -11,6 +11,7 @@ use elide_args::{
 };
 use elide_asm::{asm, dis};
 use elide_color::PaintedWords;
+use elide_device::{Lent, Progress, Terminals};
 use elide_draw::draw;
 use elide_explain::explain;
 use elide_hunt::hunt;
@@ -20,7 +21,7 @@ use elide_program::Paths;
 use elide_replay::replay;
 use elide_run::run;
 use elide_session::{debug, gdb};
-use elide_setup::{Lent, Progress, Refusal, Terminals};
+use elide_setup::Refusal;
 use elide_stats::stats;
 use elide_threads::threads;
 use std::alloc::Global;

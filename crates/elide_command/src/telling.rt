@@ -5,25 +5,19 @@
 
 ghost use Rattle.std.specs.Prelude.{◌≡◌, ◌≤◌, ◌+◌, ◌++◌, ◌∷◌, [], ℕ, List, codes, length};
 ghost use Rattle.text_out.specs.Writing.{Writes};
-ghost use Rattle.arrayvec.specs.ArrayVec.{array_vec_len};
 ghost use Rattle.elide_color.specs.Painting.{painted};
 ghost use Rattle.elide_color.specs.declared.style.Style.TheVariants as style;
 ghost use Rattle.elide_command.specs.Telling.{refusal_text};
 ghost use Rattle.elide_setup.specs.Faults.{refusal_status};
 ghost use Rattle.elide_setup.specs.Told.{fault_back, fault_front};
 
-use arrayvec::{ArrayString, ArrayVec};
+use arrayvec::ArrayVec;
 use elide_color::{Style, push_painted};
-use elide_setup::{Fault, Refusal, push_back, push_front};
-use std::fmt::Write;
-use text_out::page::push;
+use elide_setup::{Fault, Refusal, push_back, push_front, push_name};
 use text_out::{Failed, Out};
 
 // The line that tells a fault.
 type Line = ArrayVec<u8, 160>;
-
-// A fault's name. The longest has some 20 bytes.
-type Name = ArrayString<64>;
 
 /// Tells why a command ended, painted or not, and gives its status.
 pub fn tell<E: Out>(refusal: Refusal, is_painted: bool, err: &mut E) -> u8
@@ -57,17 +51,6 @@ fn write_fault<E: Out>(fault: Fault, is_painted: bool, err: &mut E) -> Result<()
     push_name(&mut line, fault);
     push_back(&mut line, fault);
     err.put(line.as_slice())
-}
-
-fn push_name(line: &mut Line, fault: Fault)
-    requires { array_vec_len line.old + 64 ≤ 160 }
-    ensures text { (name : List ℕ) × (line.new.items ≡ line.old.items ++ name) }
-    ensures len { array_vec_len line.new ≤ array_vec_len line.old + 64 }
-{
-    let mut name = Name::new();
-    // A name that is longer is cut short.
-    let _ = write!(name, "{fault}");
-    push(line, name.as_str().as_bytes());
 }
 
 fn write_usage<E: Out>(name: &str, is_painted: bool, err: &mut E) -> Result<(), Failed>

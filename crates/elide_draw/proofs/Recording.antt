@@ -1,7 +1,7 @@
 -- A run that is made to be counted, and once more to be watched, and its record.
-use Rattle.std.proofs.Common.{ℕ, List, Option, Ok, Err}
+use Rattle.std.proofs.Common.{ℕ, List, Option}
 use Rattle.std.specs.Borrow.{Bor}
-use Rattle.std.specs.Prelude.{OnOk, Result, is_some}
+use Rattle.std.specs.Prelude.{is_some}
 use Rattle.tm_model.specs.declared.outcome.Outcome.{Outcome}
 use Rattle.tm_model.specs.declared.outcome.Pick.{Pick}
 use Rattle.elide_setup.proofs.Records.{recorded_kept}
@@ -12,11 +12,6 @@ use Rattle.elide_setup.specs.declared.machine.Setup.{Setup}
 use Rattle.elide_setup.specs.declared.plan.Course.{Course}
 use Rattle.elide_setup.specs.declared.plan.Course.TheVariants as course
 use Rattle.elide_draw.specs.Watched.{IsTally, IsWatched}
-
--- what holds of a run stays true where what is printed behind it may fail
-pub kept_on_ok : {T E P : Type 0} (r : Result T E) → P → OnOk r P
-kept_on_ok (Ok done) h = h
-kept_on_ok (Err refused) h = tt
 
 -- the run that was watched, of a list, and that which was counted, of a schedule that is drawn
 pub has_run : (left : List ℕ → Option (List ℕ)) (setup : Setup) (asked : Course) (path : Option (Bor (List ℕ)))

@@ -16,13 +16,13 @@ ghost use Rattle.elide_program.specs.declared.settings.Settings.{Settings};
 
 use crate::course::{Tally, counted, watched};
 use crate::extent::{Extent, rows_of};
+use crate::line_names::LineNames;
 use crate::scene::ProgramScene;
-use crate::symbols::Symbols;
 use elide_args::DrawOptions;
+use elide_device::{Gathered, Lent, Progress};
 use elide_places::Places;
 use elide_program::{Paths, ProgramFile, Settings, read_file};
-use elide_setup::{Course, Gathered, Lent, Plan, Progress, Refusal, Setup, record_path};
-use elide_trace::labels_of;
+use elide_setup::{Course, Plan, Refusal, Setup, record_path};
 use std::alloc::Global;
 use text_out::Out;
 use tm_timeline::{Label, Rows, Timeline};
@@ -133,48 +133,19 @@ fn draw_text<P: Paths, O: Out, G: Progress>(
     ensures { OnOk result ((file : ProgramFile) × IsFile text.now file
         × HasRunPlan (P.content paths.old) (P.content paths.new) file settings.now plan.entry asked.now.path) }
 {
-    let setup = setup_of(alloc, settings, text)?;
-    let drawn = draw_setup(alloc, &setup, text, plan, asked, sums, paths, out, progress);
-    drop(setup);
-    drawn
-}
-
-fn draw_setup<P: Paths, O: Out, G: Progress>(
-    alloc: Global,
-    setup: &Setup,
-    text: &[u8],
-    plan: Plan<'_>,
-    asked: &Asked<'_>,
-    sums: &[&str],
-    paths: &mut P,
-    out: &mut O,
-    progress: &mut G,
-) -> Result<(), Refusal>
-    ensures { (file : ProgramFile) (settings : Settings) → IsSetup file settings setup.now →
-        OnOk result (HasRunPlan (P.content paths.old) (P.content paths.new) file settings plan.entry asked.now.path) }
-{
-    let places = Places::of_text(alloc, text)?;
-    let labels = labels_of(alloc, &places)?;
+    let (setup, places) = setup_of(alloc, settings, text)?;
     let drawn = draw_placed(
-        alloc,
-        setup,
-        &Symbols::new(&places, labels.as_slice()),
-        plan,
-        asked,
-        sums,
-        paths,
-        out,
-        progress,
+        alloc, &setup, &places, plan, asked, sums, paths, out, progress,
     );
-    drop(labels);
     drop(places);
+    drop(setup);
     drawn
 }
 
 fn draw_placed<P: Paths, O: Out, G: Progress>(
     alloc: Global,
     setup: &Setup,
-    symbols: &Symbols<'_>,
+    places: &Places,
     plan: Plan<'_>,
     asked: &Asked<'_>,
     sums: &[&str],
@@ -187,7 +158,7 @@ fn draw_placed<P: Paths, O: Out, G: Progress>(
 {
     let course = plan.course(alloc, paths)?;
     let drawn = draw_course(
-        alloc, setup, symbols, &course, asked, sums, paths, out, progress,
+        alloc, setup, places, &course, asked, sums, paths, out, progress,
     );
     drop(course);
     drawn
@@ -196,7 +167,7 @@ fn draw_placed<P: Paths, O: Out, G: Progress>(
 fn draw_course<P: Paths, O: Out, G: Progress>(
     alloc: Global,
     setup: &Setup,
-    symbols: &Symbols<'_>,
+    places: &Places,
     course: &Course,
     asked: &Asked<'_>,
     sums: &[&str],
@@ -212,11 +183,11 @@ fn draw_course<P: Paths, O: Out, G: Progress>(
     let scene = ProgramScene {
         alloc,
         program: &setup.program,
-        labels: symbols.labels,
+        labels: places.labels(),
         addresses: setup.parts.values.as_slice(),
     };
     let timeline = watched(alloc, setup, course, window, scene, sums, progress)?;
-    let drawn = record_drawn(course, &counted, &timeline, symbols, asked, paths, out);
+    let drawn = record_drawn(course, &counted, &timeline, places, asked, paths, out);
     drop(timeline);
     drawn
 }
@@ -226,7 +197,7 @@ fn record_drawn<P: Paths, O: Out>(
     course: &Course,
     counted: &Tally,
     timeline: &Timeline,
-    symbols: &Symbols<'_>,
+    places: &Places,
     asked: &Asked<'_>,
     paths: &mut P,
     out: &mut O,
@@ -235,29 +206,31 @@ fn record_drawn<P: Paths, O: Out>(
         (schedule_made course.now counted.now.made.items)) }
 {
     course.record(asked.path, counted.made.as_slice(), paths)?;
-    write_timeline(timeline, symbols, asked, out)
+    write_timeline(timeline, places, asked, out)
 }
 
 // Writes a timeline.
 fn write_timeline<O: Out>(
     timeline: &Timeline,
-    symbols: &Symbols<'_>,
+    places: &Places,
     asked: &Asked<'_>,
     out: &mut O,
 ) -> Result<(), Refusal> {
     let mut page = Gathered::new(Lent::new(out));
     let title = Label::of(name_of(asked.file));
-    timeline.write(&title, &asked.rows, symbols, &mut page)?;
+    timeline.write(&title, &asked.rows, &LineNames { places }, &mut page)?;
     page.finish()?;
     Ok(())
 }
 
-// The program of a text.
-fn setup_of(alloc: Global, settings: &Settings<'_>, text: &[u8]) -> Result<Setup, Refusal>
-    ensures { IfOk result (λ setup. (file : ProgramFile) × IsFile text.now file × IsSetup file settings.now setup) }
+// The program of a text, and its places.
+fn setup_of(alloc: Global, settings: &Settings<'_>, text: &[u8]) -> Result<(Setup, Places), Refusal>
+    ensures { IfOk result (λ made. (file : ProgramFile) × IsFile text.now file × IsSetup file settings.now made.0) }
 {
     let file = ProgramFile::read(alloc, text)?;
-    Setup::of_file(alloc, settings, &file)
+    let setup = Setup::of_file(alloc, settings, &file)?;
+    let places = Places::of_file(alloc, &file, text)?;
+    Ok((setup, places))
 }
 
 // The last part of a path.

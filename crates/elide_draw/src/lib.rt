@@ -12,9 +12,9 @@
 mod command;
 mod course;
 mod extent;
+mod line_names;
 mod rounds;
 mod scene;
-mod symbols;
 mod watch;
 
 pub use command::draw;

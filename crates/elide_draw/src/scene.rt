@@ -4,11 +4,12 @@
 //! The texts are those of a trace, cut to a label's room. Variables are addresses here: what memory holds there is read
 //! in `watch`, and they are named in `course`.
 
-use debug_command::{Symbol, write_place};
+use debug_command::write_place;
 use ia_image::Program;
 use ia_text::write_insn;
 use std::alloc::{AllocError, Global};
 use std::str;
+use symbols::Symbol;
 use text_out::ToVec;
 use tm_core::Machine;
 use tm_timeline::{Label, StepText};

@@ -6,7 +6,8 @@
 use crate::entry::{head_of, is_asked};
 use crate::faults::FAULTS;
 use elide_args::ExplainOptions;
-use elide_setup::{Gathered, Lent, Refusal};
+use elide_device::{Gathered, Lent};
+use elide_setup::Refusal;
 use text_out::{Out, WriteFault};
 
 /// Prints what a fault means, by its number or its name; of several of one name, each. Where none is asked for it

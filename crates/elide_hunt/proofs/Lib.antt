@@ -1,5 +1,4 @@
 mod Hunted
 mod Objects
 mod Shares
-mod Texts
 mod Refusals

@@ -1,14 +1,9 @@
 -- What the objects of a search stand for, as they are sent.
-use Rattle.std.specs.Prelude.{ℕ, List, Option, Some, None}
-use Rattle.serde_json.specs.Data.{Data, null, string}
+use Rattle.std.specs.Prelude.{Option, Some, None}
+use Rattle.serde_json.specs.Data.{Data, null}
 use Rattle.elide_hunt.specs.Object.{failure_value, hunt_value, search_status}
 use Rattle.elide_hunt.specs.declared.sending.FailureObject.{FailureObject}
 use Rattle.elide_hunt.specs.declared.sending.HuntObject.{HuntObject}
-
--- a text, where there is one
-abbrev pub text_value : Option (List ℕ) → Data
-text_value None = null
-text_value (Some text) = string text
 
 abbrev pub sent_failure : FailureObject → Data
 sent_failure o = failure_value o.options.now o.beside o.replay.now o.found.now

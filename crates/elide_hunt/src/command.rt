@@ -39,10 +39,9 @@ use crate::report::{Beside, counts_of, tell_lines};
 use crate::searching::searched;
 use elide_args::HuntOptions;
 use elide_checks::{Demands, Orders};
+use elide_device::{Gathered, Progress};
 use elide_program::{Paths, ProgramFile, Settings, read_file};
-use elide_setup::{
-    Gathered, Paged, Pages, Progress, Refusal, Setup, page_path, record, record_path,
-};
+use elide_setup::{Paged, Pages, Refusal, Setup, page_path, record, record_path};
 use std::alloc::Global;
 use std::thread::Threads;
 use text_out::Out;

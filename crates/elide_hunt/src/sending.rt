@@ -6,17 +6,17 @@
 
 ghost use Rattle.std.specs.Prelude.{◌≡◌, OnOk, codes};
 ghost use Rattle.std.specs.Option.{option_copied};
-ghost use Rattle.elide_object.specs.Object.{SendsMember};
+ghost use Rattle.elide_object.specs.Object.{SendsMember, text_or_null};
 ghost use Rattle.serde_json.specs.Events.{SendsValue};
 ghost use Rattle.elide_hunt.specs.Object.{check_value, counts_value, cycle_value, loop_value, option_value, runs_value};
 ghost use Rattle.elide_hunt.specs.Object.{search_status, told_cycle};
 ghost use Rattle.tm_hunt.specs.Cycle.{loop_of};
-ghost use Rattle.elide_hunt.specs.Sent.{failure_of, object_value, sent_failure, text_value};
+ghost use Rattle.elide_hunt.specs.Sent.{failure_of, object_value, sent_failure};
 
 use crate::cycle::MOST_TOLD;
 use crate::report::{Beside, Counts, counts_of};
 use elide_args::HuntOptions;
-use elide_object::{send_number, send_schedule, send_text};
+use elide_object::{send_number, send_schedule, send_text, send_text_or_null};
 use serde::{Described, Serialize, Serializer};
 use tm_hunt::{Cycle, Found};
 use tm_model::Pick;
@@ -143,24 +143,13 @@ fn send_check<S: Serializer>(
 
 fn send_option<S: Serializer>(name: &str, text: Option<&str>, out: &mut S) -> Result<(), S::Error>
     ensures { OnOk result
-        (SendsValue (option_value name.now (text_value (option_copied text.entry))) (S.written out.old)
+        (SendsValue (option_value name.now (text_or_null (option_copied text.entry))) (S.written out.old)
         (S.written out.new)) }
 {
     out.begin_map(Some(2))?;
     send_text("option", name, out)?;
-    send_option_text(text, out)?;
+    send_text_or_null("text", text, out)?;
     out.end_map()
-}
-
-fn send_option_text<S: Serializer>(text: Option<&str>, out: &mut S) -> Result<(), S::Error>
-    ensures { OnOk result (SendsMember (codes "text") (text_value (option_copied text.entry)) (S.written out.old)
-        (S.written out.new)) }
-{
-    out.key("text")?;
-    match text {
-        Some(text) => out.str(text),
-        None => out.unit(),
-    }
 }
 
 fn send_counts<S: Serializer>(name: &str, counts: Counts, out: &mut S) -> Result<(), S::Error>

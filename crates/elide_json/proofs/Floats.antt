@@ -16,13 +16,13 @@ use Rattle.elide_json.specs.Objects.{running_value, status_member}
 use Rattle.elide_json.specs.Outcomes.{outcome_value}
 use Rattle.elide_json.specs.Shown.{sent_members, sent_replay, sent_run, sent_threads}
 use Rattle.elide_json.specs.Words.{number_or_null, outcome_event, outcome_status, outcome_stop, state_stop}
-use Rattle.elide_json.specs.Words.{word_or_null}
+use Rattle.elide_object.specs.Object.{text_or_null}
 use Rattle.elide_json.specs.declared.objects.ReplayObject.{ReplayObject}
 use Rattle.elide_json.specs.declared.objects.RunEnd.{RunEnd}
 use Rattle.elide_json.specs.declared.objects.Shown.{Shown}
 use Rattle.elide_json.specs.declared.objects.ThreadsObject.{ThreadsObject}
 
-no_float_word : (word : Option (List ℕ)) → has_float (word_or_null word) ≡ false
+no_float_word : (word : Option (List ℕ)) → has_float (text_or_null word) ≡ false
 no_float_word None = refl
 no_float_word (Some word) = refl
 
@@ -33,15 +33,15 @@ no_float_number (Some number) = refl
 pub no_float_outcome : (step core : ℕ) (outcome : Outcome) → has_float (outcome_value step core outcome) ≡ false
 unfolding outcome_value
 no_float_outcome step core outcome =
-    no_float_both (has_float (word_or_null (outcome_stop outcome))) _ (no_float_word (outcome_stop outcome))
+    no_float_both (has_float (text_or_null (outcome_stop outcome))) _ (no_float_word (outcome_stop outcome))
     (no_float_both (has_float (number_or_null (outcome_status outcome))) _ (no_float_number (outcome_status outcome))
-    (no_float_both (has_float (word_or_null (outcome_event outcome))) false
+    (no_float_both (has_float (text_or_null (outcome_event outcome))) false
     (no_float_word (outcome_event outcome)) refl))
 
 pub no_float_core : (core : ℕ) (state : CoreState) (regs : Regs) → has_float (core_object core state regs) ≡ false
 unfolding core_object
 no_float_core core state regs =
-    no_float_both (has_float (word_or_null (state_stop state))) _ (no_float_word (state_stop state))
+    no_float_both (has_float (text_or_null (state_stop state))) _ (no_float_word (state_stop state))
     (no_float_both (items_have_float (items_of string (flag_names regs.flags))) false
     (no_float_items string (λ name. refl) (flag_names regs.flags)) refl)
 

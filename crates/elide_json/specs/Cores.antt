@@ -7,8 +7,10 @@ use Rattle.ia_regs.specs.declared.Regs.{Regs}
 use Rattle.ia_regs.specs.declared.flags.Flags.{Flags}
 use Rattle.serde_json.specs.Data.{Data, Members, member, no_members, object, string}
 use Rattle.tm_core.specs.Theorem.{ShownMachine as Machine, view_at}
+use Rattle.tm_hist.specs.Machine.{depth_of}
 use Rattle.tm_model.specs.declared.outcome.CoreState.{CoreState}
-use Rattle.elide_json.specs.Words.{state_depth, state_name, state_stop, word_or_null}
+use Rattle.elide_json.specs.Words.{state_name, state_stop}
+use Rattle.elide_object.specs.Object.{text_or_null}
 
 abbrev pub named_if : Bool → List ℕ → List (List ℕ)
 named_if is_set name = if is_set then name ∷ [] else []
@@ -24,8 +26,8 @@ flag_names f =
 abbrev pub state_members : CoreState → Members → Members
 state_members state others =
     member (codes "state") (string (state_name state))
-    (member (codes "depth") (number_value (state_depth state))
-    (member (codes "stop") (word_or_null (state_stop state)) others))
+    (member (codes "depth") (number_value (depth_of state))
+    (member (codes "stop") (text_or_null (state_stop state)) others))
 
 -- the general registers, by number, and the instruction pointer, before other members
 abbrev pub regs_members : Regs → Members → Members

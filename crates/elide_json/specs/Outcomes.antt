@@ -8,7 +8,7 @@ use Rattle.serde_json.specs.Written.{comma_if, compact_text}
 use Rattle.tm_model.specs.declared.outcome.Outcome.{Outcome}
 use Rattle.tm_model.specs.declared.outcome.Pick.{Pick}
 use Rattle.elide_json.specs.Words.{number_or_null, outcome_event, outcome_name, outcome_status, outcome_stop}
-use Rattle.elide_json.specs.Words.{word_or_null}
+use Rattle.elide_object.specs.Object.{text_or_null}
 
 -- the outcome of the step of this number, which was this core's
 unfoldable pub outcome_value : ℕ → ℕ → Outcome → Data
@@ -16,9 +16,9 @@ outcome_value number core outcome =
     object (member (codes "step") (number_value number)
     (member (codes "core") (number_value core)
     (member (codes "outcome") (string (outcome_name outcome))
-    (member (codes "stop") (word_or_null (outcome_stop outcome))
+    (member (codes "stop") (text_or_null (outcome_stop outcome))
     (member (codes "status") (number_or_null (outcome_status outcome))
-    (member (codes "event") (word_or_null (outcome_event outcome)) no_members))))))
+    (member (codes "event") (text_or_null (outcome_event outcome)) no_members))))))
 
 -- of a step, which is its number and a pick with its outcome
 abbrev pub step_value : ℕ × (Pick × Outcome) → Data

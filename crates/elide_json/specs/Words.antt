@@ -1,18 +1,14 @@
 -- The words that objects have for what a core is doing and for what a step was (docs/JSON.md).
 use Rattle.std.specs.Prelude.{ℕ, List, codes, Option, Some, None}
 use Rattle.elide_object.specs.Object.{number_value}
-use Rattle.serde_json.specs.Data.{Data, null, string}
+use Rattle.serde_json.specs.Data.{Data, null}
 use Rattle.tm_hist.specs.Lines.{interference_word, stop_word}
 use Rattle.tm_model.specs.declared.outcome.CoreState.{CoreState}
 use Rattle.tm_model.specs.declared.outcome.CoreState.TheVariants as state
 use Rattle.tm_model.specs.declared.outcome.Outcome.{Outcome}
 use Rattle.tm_model.specs.declared.outcome.Outcome.TheVariants as outcome
 
--- a word, or a number, where there is one
-abbrev pub word_or_null : Option (List ℕ) → Data
-word_or_null None = null
-word_or_null (Some word) = string word
-
+-- a number, where there is one
 abbrev pub number_or_null : Option ℕ → Data
 number_or_null None = null
 number_or_null (Some number) = number_value number
@@ -23,14 +19,6 @@ state_name state.Mid = codes "mid"
 state_name (state.Open depth) = codes "tx"
 state_name (state.Condemned depth) = codes "condemned"
 state_name (state.Stopped why) = codes "stop"
-
--- how deep the transaction is that is open, or that a conflict hit, and 0 outside
-abbrev pub state_depth : CoreState → ℕ
-state_depth state.Running = 0
-state_depth state.Mid = 0
-state_depth (state.Open depth) = depth
-state_depth (state.Condemned depth) = depth
-state_depth (state.Stopped why) = 0
 
 -- why a core has stopped
 abbrev pub state_stop : CoreState → Option (List ℕ)

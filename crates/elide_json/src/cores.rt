@@ -11,12 +11,13 @@ ghost use Rattle.elide_json.specs.Cores.{core_object, core_value, cores_value, f
 ghost use Rattle.elide_json.specs.Cores.{state_members};
 ghost use Rattle.elide_json.specs.Sent.{SendsFront};
 
-use crate::words::{depth_of, name_of_state, send_word, stop_of_state};
+use crate::words::{name_of_state, stop_of_state};
 use arrayvec::ArrayVec;
-use elide_object::{send_number, send_text, send_texts};
+use elide_object::{send_number, send_text, send_text_or_null, send_texts};
 use ia_regs::{Flags, Regs};
 use serde::Serializer;
 use tm_core::Machine;
+use tm_hist::depth_of;
 use tm_model::CoreState;
 
 // The names of the flags that are set.
@@ -72,7 +73,7 @@ fn send_state<S: Serializer>(state: CoreState, out: &mut S) -> Result<(), S::Err
 {
     send_text("state", name_of_state(state), out)?;
     send_number("depth", u64::from(depth_of(state)), out)?;
-    send_word("stop", stop_of_state(state), out)
+    send_text_or_null("stop", stop_of_state(state), out)
 }
 
 fn send_regs<S: Serializer>(regs: &Regs, out: &mut S) -> Result<(), S::Error>

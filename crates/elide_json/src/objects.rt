@@ -19,8 +19,9 @@ ghost use Rattle.elide_json.specs.Sent.{SendsFront};
 use crate::cores::send_cores;
 use crate::memory::{DumpRow, Rows, ShowRow, send_dumps, send_shows};
 use crate::outcomes::put;
-use crate::words::send_word;
-use elide_object::{object_line, send_flag, send_number, send_numbers, send_text};
+use elide_object::{
+    object_line, send_flag, send_number, send_numbers, send_text, send_text_or_null,
+};
 use elide_program::MemoryParts;
 use elide_setup::Refusal;
 use serde::{Described, Serialize, Serializer};
@@ -76,7 +77,7 @@ fn send_running<S: Serializer>(running: Option<&[u32]>, out: &mut S) -> Result<(
 {
     match running {
         Some(cores) => send_numbers("running", cores, out),
-        None => send_word("running", None, out),
+        None => send_text_or_null("running", None, out),
     }
 }
 

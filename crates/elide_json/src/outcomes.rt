@@ -12,10 +12,8 @@ ghost use Rattle.elide_json.specs.Outcomes.{outcome_value, row_text, run_front};
 ghost use Rattle.elide_json.specs.Refused.{IsUnsaid};
 
 use crate::text::text_of;
-use crate::words::{
-    event_of, name_of_outcome, send_optional, send_word, status_of, stop_of_outcome,
-};
-use elide_object::{send_number, send_text};
+use crate::words::{event_of, name_of_outcome, send_optional, status_of, stop_of_outcome};
+use elide_object::{send_number, send_text, send_text_or_null};
 use elide_setup::Refusal;
 use serde::{Described, Serialize, Serializer};
 use std::alloc::{AllocError, Global};
@@ -42,9 +40,9 @@ impl Serialize for OutcomeRow {
         send_number("step", self.step, out)?;
         send_number("core", u64::from(self.core), out)?;
         send_text("outcome", name_of_outcome(outcome), out)?;
-        send_word("stop", stop_of_outcome(outcome), out)?;
+        send_text_or_null("stop", stop_of_outcome(outcome), out)?;
         send_optional("status", status_of(outcome), out)?;
-        send_word("event", event_of(outcome), out)?;
+        send_text_or_null("event", event_of(outcome), out)?;
         out.end_map()
     }
 }

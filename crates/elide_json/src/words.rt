@@ -1,34 +1,18 @@
 //! Words, and members whose value may be missing: these are sent as `null`, so that each object has the same members.
 //!
-//! [`send_word`] and [`send_optional`] send a member; the other calls say the word or the number of a state or an
+//! [`send_optional`] sends a member; the other calls say the word or the number of a state or an
 //! outcome, and where there is none. They send nothing.
 
 ghost use Rattle.std.specs.Prelude.{◌≡◌, OnOk, option_map};
 ghost use Rattle.std.specs.Option.{option_copied};
 ghost use Rattle.elide_object.specs.Object.{SendsMember};
 ghost use Rattle.elide_json.specs.Words.{number_or_null, outcome_event, outcome_name, outcome_status, outcome_stop};
-ghost use Rattle.elide_json.specs.Words.{state_depth, state_name, state_stop, word_or_null};
+ghost use Rattle.elide_json.specs.Words.{state_name, state_stop};
 ghost use Rattle.tm_hist.specs.Lines.{interference_word, stop_word};
 
 use serde::Serializer;
 use tm_model::{CoreState, Interference, Outcome};
 use tm_rule::Stop;
-
-/// Sends a word, or null.
-pub fn send_word<S: Serializer>(
-    name: &str,
-    word: Option<&'static str>,
-    out: &mut S,
-) -> Result<(), S::Error>
-    ensures { OnOk result
-        (SendsMember name.now (word_or_null (option_copied word.entry)) (S.written out.old) (S.written out.new)) }
-{
-    out.key(name)?;
-    match word {
-        Some(word) => out.str(word),
-        None => out.unit(),
-    }
-}
 
 /// Sends a number, or null.
 pub fn send_optional<S: Serializer>(
@@ -55,17 +39,6 @@ pub fn name_of_state(state: CoreState) -> &'static str
         CoreState::Open(_) => "tx",
         CoreState::Condemned(_) => "condemned",
         CoreState::Stopped(_) => "stop",
-    }
-}
-
-/// How deep its transaction is, and 0 where it has none.
-pub fn depth_of(state: CoreState) -> u8
-    ensures { result ≡ state_depth state }
-{
-    match state {
-        CoreState::Open(depth) => depth,
-        CoreState::Condemned(depth) => depth,
-        _ => 0,
     }
 }
 

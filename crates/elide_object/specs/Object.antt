@@ -1,9 +1,9 @@
 -- Values of JSON that objects have in common (docs/JSON.md), and the line of an object.
-use Rattle.std.specs.Prelude.{ℕ, List, [], ◌∷◌, ◌++◌, Some}
+use Rattle.std.specs.Prelude.{ℕ, List, [], ◌∷◌, ◌++◌, Option, Some, None}
 use Rattle.text_out.specs.TextLine.{line_end}
 use Rattle.serde.specs.Event.{Log, Logs, field_key}
 use Rattle.serde.specs.declared.name.Case.TheVariants.{AsIs}
-use Rattle.serde_json.specs.Data.{Data, Items, array, item, no_items, number, string, unsigned}
+use Rattle.serde_json.specs.Data.{Data, Items, array, item, no_items, null, number, string, unsigned}
 use Rattle.serde_json.specs.Events.{SendsValue}
 use Rattle.serde_json.specs.Written.{compact_text}
 use Rattle.tm_model.specs.declared.outcome.Pick.{Pick}
@@ -32,6 +32,11 @@ items_of value_of (x ∷ xs) = item (value_of x) (items_of value_of xs)
 
 abbrev pub list_value : {A : Type 0} → (A → Data) → List A → Data
 list_value value_of xs = array (items_of value_of xs)
+
+-- a text, where there is one
+abbrev pub text_or_null : Option (List ℕ) → Data
+text_or_null None = null
+text_or_null (Some text) = string text
 
 abbrev pub text_list : List (List ℕ) → Data
 text_list texts = list_value string texts

@@ -11,5 +11,5 @@ mod members;
 mod schedule;
 
 pub use line::object_line;
-pub use members::{send_flag, send_number, send_numbers, send_text, send_texts};
+pub use members::{send_flag, send_number, send_numbers, send_text, send_text_or_null, send_texts};
 pub use schedule::send_schedule;

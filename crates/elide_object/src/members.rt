@@ -1,8 +1,9 @@
 //! Members of an object, each with its name.
 
 ghost use Rattle.std.specs.Prelude.{OnOk, map};
+ghost use Rattle.std.specs.Option.{option_copied};
 ghost use Rattle.serde_json.specs.Data.{boolean, string};
-ghost use Rattle.elide_object.specs.Object.{SendsMember, list_value, number_value, text_list};
+ghost use Rattle.elide_object.specs.Object.{SendsMember, list_value, number_value, text_list, text_or_null};
 
 use serde::{Serialize, Serializer};
 
@@ -20,6 +21,22 @@ pub fn send_text<S: Serializer>(name: &str, text: &str, out: &mut S) -> Result<(
 {
     out.key(name)?;
     out.str(text)
+}
+
+/// Sends a text, or null where there is none.
+pub fn send_text_or_null<S: Serializer>(
+    name: &str,
+    text: Option<&str>,
+    out: &mut S,
+) -> Result<(), S::Error>
+    ensures { OnOk result
+        (SendsMember name.now (text_or_null (option_copied text.entry)) (S.written out.old) (S.written out.new)) }
+{
+    out.key(name)?;
+    match text {
+        Some(text) => out.str(text),
+        None => out.unit(),
+    }
 }
 
 /// Sends what is true or false.

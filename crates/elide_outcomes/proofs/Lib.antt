@@ -3,5 +3,4 @@ mod Objects
 mod Printed
 mod Trials
 mod Words
-mod Zips
 mod Refusing

@@ -11,13 +11,13 @@ use Rattle.tm_outcomes.specs.declared.cycle.Cycle.{Cycle}
 use Rattle.tm_outcomes.specs.declared.searching.Search.{Search}
 use Rattle.tm_outcomes.specs.declared.stops.ReachedStop.{ReachedStop}
 use Rattle.tm_outcomes.specs.declared.stuck.Stuck.{Stuck}
-use Rattle.tm_outcomes.specs.declared.table.Told.{Told}
+use Rattle.tm_outcomes.specs.declared.table.FoundOutcome.{FoundOutcome}
 use Rattle.tm_outcomes.specs.declared.violations.Violation.{Violation}
 use Rattle.elide_outcomes.specs.Object.{check_value, cycle_value, forbid_value, option_value, outcome_value}
 use Rattle.elide_outcomes.specs.Object.{search_value, stop_value}
 use Rattle.elide_outcomes.specs.Object.{stuck_value, violation_value}
 
-no_float_outcome : (told : Told) → has_float (outcome_value told) ≡ false
+no_float_outcome : (told : FoundOutcome) → has_float (outcome_value told) ≡ false
 no_float_outcome told =
     no_float_both (items_have_float (items_of number_value told.values.items))
     (items_have_float (items_of word_value told.schedule.items) || false)

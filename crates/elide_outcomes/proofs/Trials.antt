@@ -18,7 +18,6 @@ use Rattle.elide_outcomes.specs.Names.{IsLabelOf}
 use Rattle.elide_outcomes.specs.Printed.{IsFound, IsMade, IsSorted, IsTrialOf, asks_more}
 use Rattle.elide_outcomes.specs.declared.command.Asked.{Asked}
 use Rattle.elide_outcomes.specs.declared.found.Found.{Found}
-use Rattle.elide_outcomes.specs.declared.named.NamedAddress.{NamedAddress}
 
 abbrev pub IsFoundOf : List ℕ → ProgramFile → Settings → Asked → Found → Type 0
 IsFoundOf text file settings asked found =

@@ -4,7 +4,6 @@ pub mod Violated
 pub mod Lines
 pub mod Object
 pub mod Sent
-pub mod TextValues
 pub mod Under
 pub mod Stops
 pub mod Verdict

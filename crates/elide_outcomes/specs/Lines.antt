@@ -15,11 +15,11 @@ use Rattle.tm_outcomes.specs.declared.cycle.Cycle.{Cycle}
 use Rattle.tm_outcomes.specs.declared.searching.Search.{Search}
 use Rattle.tm_outcomes.specs.declared.stops.ReachedStop.{ReachedStop}
 use Rattle.tm_outcomes.specs.declared.stuck.Stuck.{Stuck}
-use Rattle.tm_outcomes.specs.declared.table.Told.{Told}
+use Rattle.tm_outcomes.specs.declared.table.FoundOutcome.{FoundOutcome}
 use Rattle.tm_schedule.specs.Picks.{pick_word}
 use Rattle.elide_outcomes.specs.Names.{label_at}
 use Rattle.elide_outcomes.specs.Violated.{violation_lines}
-use Rattle.elide_outcomes.specs.declared.named.NamedAddress.{NamedAddress}
+use Rattle.symbols.specs.declared.symbol.Symbol.{Symbol}
 
 -- ---- names, where they are asked for
 
@@ -42,7 +42,7 @@ name_text (Some name) = codes " <" ++ name ++ codes ">"
 -- ---- outcomes
 
 -- a value in eight hex digits, behind it the name of the label at this address, if there is one, and a space
-abbrev pub item_text : List NamedAddress → ℕ → List ℕ
+abbrev pub item_text : List Symbol → ℕ → List ℕ
 item_text labels value = eight_digits value ++ name_text (label_at labels value) ++ codes " "
 
 -- how many states show the values, between spaces
@@ -54,13 +54,13 @@ abbrev pub step_text : Pick → List ℕ
 step_text pick = codes " " ++ pick_word pick
 
 -- the line of an outcome
-abbrev pub outcome_line : List NamedAddress → Told → List ℕ
+abbrev pub outcome_line : List Symbol → FoundOutcome → List ℕ
 outcome_line labels told =
     flat_map (item_text labels) told.values.items ++ ends_text told.ends ++ flat_map step_text told.schedule.items
     ++ line_end
 
 -- those of several
-abbrev pub outcome_lines : List NamedAddress → List Told → List ℕ
+abbrev pub outcome_lines : List Symbol → List FoundOutcome → List ℕ
 outcome_lines labels outcomes = flat_map (outcome_line labels) outcomes
 
 -- something is shown where a word says it
@@ -69,7 +69,7 @@ has_words [] = false
 has_words (word ∷ words) = true
 
 -- where something is shown of them
-abbrev pub shown_lines : Bool → List NamedAddress → List Told → List ℕ
+abbrev pub shown_lines : Bool → List Symbol → List FoundOutcome → List ℕ
 shown_lines shows labels outcomes = if shows then outcome_lines labels outcomes else []
 
 -- ---- what is wrong
@@ -137,7 +137,7 @@ count_line shows outcomes states stuck is_cut =
     counts_text shows outcomes states ++ wayless_text stuck ++ cut_text is_cut ++ line_end
 
 -- the lines of a search whose outcomes stand in this order, of which these words say what is shown, by these labels
-abbrev pub search_text : OutcomesOptions → List (List ℕ) → List NamedAddress → Search → List ℕ
+abbrev pub search_text : OutcomesOptions → List (List ℕ) → List Symbol → Search → List ℕ
 search_text options words labels search =
     items_line options.shows_names words
     ++ shown_lines (has_words words) labels search.outcomes.items
@@ -146,6 +146,6 @@ search_text options words labels search =
     ++ count_line (has_words words) (length search.outcomes.items) search.states search.stuck search.is_cut
 
 -- those that were found, each once, in the order of their values: the first item decides, where it is alike the next
-pub record AreInOrder (found told : List Told) : Type 0 where
+pub record AreInOrder (found told : List FoundOutcome) : Type 0 where
   pub each_once : IsPermutation found told
   pub sorted : IsSorted (λ a b. slice_cmp nat_cmp a.values.items b.values.items) told

@@ -1,18 +1,15 @@
 -- Labels by their addresses (docs/FORMATS.md, "Outcomes").
-use Rattle.std.specs.Prelude.{◌≡◌, ℕ, List, [], ◌∷◌, nat_eq, Option, Some, None, if◌then◌else◌}
-use Rattle.elide_places.specs.Shown.{shown_name}
+use Rattle.std.specs.Prelude.{ℕ, List, Option, Some, find, option_map}
+use Rattle.symbols.specs.Shown.{shown_name}
+use Rattle.symbols.specs.Symbols.{stands_at}
+use Rattle.symbols.specs.declared.symbol.Symbol.{Symbol}
 use Rattle.elide_program.specs.ProgramFile.{IsFileSymbol}
 use Rattle.elide_program.specs.declared.file.ProgramFile.{ProgramFile}
-use Rattle.elide_outcomes.specs.declared.named.NamedAddress.{NamedAddress}
 
--- a symbol of the file stands at this address, and this is how its name is shown
-pub record IsLabelOf (file : ProgramFile) (label : NamedAddress) : Type 0 where
-  pub name : List ℕ
-  pub stands : IsFileSymbol file name (Some label.address)
-  pub shown : label.shown.items ≡ shown_name name
+-- the symbol of this name stands there in the file
+abbrev pub IsLabelOf : ProgramFile → Symbol → Type 0
+IsLabelOf file label = IsFileSymbol file label.name.items (Some label.value)
 
--- the first of some labels that stands at an address
-abbrev pub label_at : List NamedAddress → ℕ → Option (List ℕ)
-label_at [] address = None
-label_at (label ∷ labels) address =
-    if nat_eq label.address address then Some label.shown.items else label_at labels address
+-- the name of the first of some labels that stands at an address, as it is shown
+abbrev pub label_at : List Symbol → ℕ → Option (List ℕ)
+label_at labels address = option_map (λ (label : Symbol). shown_name label.name.items) (find (stands_at address) labels)

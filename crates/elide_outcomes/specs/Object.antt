@@ -11,12 +11,12 @@ use Rattle.tm_outcomes.specs.declared.searching.Search.{Search}
 use Rattle.tm_outcomes.specs.declared.stops.ReachedStop.{ReachedStop}
 use Rattle.tm_outcomes.specs.declared.stuck.Stuck.{Stuck}
 use Rattle.tm_model.specs.declared.outcome.Pick.{Pick}
-use Rattle.tm_outcomes.specs.declared.table.Told.{Told}
+use Rattle.tm_outcomes.specs.declared.table.FoundOutcome.{FoundOutcome}
 use Rattle.tm_outcomes.specs.declared.violations.Violation.{Violation}
 use Rattle.elide_outcomes.specs.Verdict.{answer_of, search_status}
 
 -- an outcome: the values, how many states show them, and the steps of a schedule
-abbrev pub outcome_value : Told → Data
+abbrev pub outcome_value : FoundOutcome → Data
 outcome_value told =
     object (member (codes "values") (list_value number_value told.values.items)
     (member (codes "ends") (number_value told.ends)

@@ -28,7 +28,7 @@ use Rattle.elide_setup.specs.declared.fault.Refusal.TheVariants as refusal
 use Rattle.elide_setup.specs.declared.machine.Setup.{Setup}
 use Rattle.tm_condition.specs.declared.check.Check.{Check}
 use Rattle.tm_outcomes.specs.Outcomes.{AreThere}
-use Rattle.tm_outcomes.specs.declared.table.Told.{Told}
+use Rattle.tm_outcomes.specs.declared.table.FoundOutcome.{FoundOutcome}
 use Rattle.tm_outcomes.specs.declared.trial.Item.{Item}
 use Rattle.tm_outcomes.specs.declared.trial.Trial.{Trial}
 use Rattle.tm_rule.specs.declared.kinds.Stop.{Stop}
@@ -151,11 +151,12 @@ pub record IsSearched (content : List ℕ → Option (List ℕ)) (options : Outc
 
 -- of these outcomes the one that is asked for has no page: fewer are told, or its schedule is not written as one, of
 -- the program of this text
-pub data IsNotShown (text : List ℕ) (options : MachineOptions) (told : List Told) (asked : PageAsked) (why : Refusal)
+pub data IsNotShown (text : List ℕ) (options : MachineOptions) (told : List FoundOutcome)
+    (asked : PageAsked) (why : Refusal)
     : Type 0 where
   none_told : (index : ℕ) (path : Bor (List ℕ)) → asked ≡ Of index path → length told ≤ index
       → IsMisuse (codes "--page") why → IsNotShown text options told asked why
-  not_written : (index : ℕ) (path : Bor (List ℕ)) (one : Told) → asked ≡ Of index path
+  not_written : (index : ℕ) (path : Bor (List ℕ)) (one : FoundOutcome) → asked ≡ Of index path
       → slice_get told index ≡ Some one → IsNotPaged text options one.schedule.items why
       → IsNotShown text options told asked why
 

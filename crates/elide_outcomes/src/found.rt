@@ -1,7 +1,7 @@
 //! What was found, as it is handed from the search to what prints it: by then the program's file is dropped, and the
 //! labels are copies.
 
-use crate::named::NamedAddress;
+use symbols::Symbol;
 use tm_outcomes::Search;
 
 /// What a search found, and the labels of its program where they are asked for.
@@ -10,5 +10,5 @@ pub struct Found {
     /// The search, whose outcomes stand in the order in which they are told.
     pub search: Search,
     /// The labels.
-    pub labels: Vec<NamedAddress>,
+    pub labels: Vec<Symbol>,
 }

@@ -15,7 +15,6 @@
 mod command;
 mod found;
 mod items;
-mod named;
 mod names;
 mod naming;
 mod object;

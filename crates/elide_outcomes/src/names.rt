@@ -3,28 +3,28 @@
 //! Promised: a label that is found stands at its address by the symbols of the file, and its name is told as it is
 //! shown (`specs/Names.antt`). That each label is found is compared by `doc_tests`.
 
-ghost use Rattle.std.specs.Prelude.{◌≡◌, ◌++◌, ◌∷◌, [], All, IfOk, OnOk, Some, option_map};
-ghost use Rattle.elide_program.specs.ProgramFile.{IsFileSymbol};
+ghost use Rattle.std.specs.Prelude.{◌≡◌, ◌++◌, ◌∷◌, [], All, IfOk, OnOk, find, option_map};
 ghost use Rattle.elide_outcomes.specs.Names.{IsLabelOf, label_at};
+ghost use Rattle.symbols.specs.Symbols.{stands_at};
 
-use crate::named::NamedAddress;
-use elide_places::{Label, Places, shown_name};
+use elide_places::Places;
 use elide_program::ProgramFile;
 use std::alloc::{AllocError, Global};
+use symbols::{Symbol, first_at};
 
-/// The labels of the program that a text was read as, where they are asked for.
+/// The labels of a file that was read from this text, where they are asked for.
 pub fn labels_of(
     alloc: Global,
     is_asked: bool,
     text: &[u8],
     file: &ProgramFile<'_>,
-) -> Result<Vec<NamedAddress>, AllocError>
+) -> Result<Vec<Symbol>, AllocError>
     ensures { IfOk result (λ labels. All (IsLabelOf file.now) labels.items) }
 {
     if !is_asked {
         return Ok(Vec::new(alloc));
     }
-    let places = Places::of_text(alloc, text)?;
+    let places = Places::of_file(alloc, file, text)?;
     let labels = those_of(alloc, places.labels(), file);
     drop(places);
     labels
@@ -33,9 +33,9 @@ pub fn labels_of(
 // Those of these that the file knows by their names.
 fn those_of(
     alloc: Global,
-    places: &[Label],
+    places: &[Symbol],
     file: &ProgramFile<'_>,
-) -> Result<Vec<NamedAddress>, AllocError>
+) -> Result<Vec<Symbol>, AllocError>
     ensures { IfOk result (λ labels. All (IsLabelOf file.now) labels.items) }
 {
     let mut labels = Vec::new(alloc);
@@ -48,49 +48,29 @@ fn those_of(
 // Adds the label of a name, where the file has it.
 fn add_label(
     alloc: Global,
-    labels: &mut Vec<NamedAddress>,
+    labels: &mut Vec<Symbol>,
     name: &[u8],
     file: &ProgramFile<'_>,
 ) -> Result<(), AllocError>
     ensures { OnOk result (All (IsLabelOf file.now) labels.old.items → All (IsLabelOf file.now) labels.new.items) }
 {
-    match file.symbol(name) {
-        Some(address) => add_named(alloc, labels, name, address, file),
-        None => Ok(()),
-    }
+    let Some(address) = file.symbol(name) else {
+        return Ok(());
+    };
+    let label = Symbol::of(alloc, &[], name, address)?;
+    add(labels, label)
 }
 
-// Adds the label of a name that stands at an address.
-fn add_named(
-    alloc: Global,
-    labels: &mut Vec<NamedAddress>,
-    name: &[u8],
-    address: u32,
-    file: &ProgramFile<'_>,
-) -> Result<(), AllocError>
-    requires { IsFileSymbol file.now name.now (Some address) }
-    ensures { OnOk result (All (IsLabelOf file.now) labels.old.items → All (IsLabelOf file.now) labels.new.items) }
-{
-    let shown = shown_name(alloc, name)?;
-    add(labels, NamedAddress { address, shown })
-}
-
-fn add(labels: &mut Vec<NamedAddress>, label: NamedAddress) -> Result<(), AllocError>
+fn add(labels: &mut Vec<Symbol>, label: Symbol) -> Result<(), AllocError>
     ensures { OnOk result (labels.new.items ≡ labels.old.items ++ label ∷ []) }
 {
     labels.push(label).map_err(|_| AllocError)
 }
 
 /// The name of the first label at an address, as it is shown.
-pub fn label_at(labels: &[NamedAddress], address: u32) -> Option<&[u8]>
+pub fn label_at(labels: &[Symbol], address: u32) -> Option<&[u8]>
     ensures { option_map (λ name. name.now) result ≡ label_at labels.now address }
 {
-    let mut left = labels;
-    'labels: while let Some((first, rest)) = left.split_first() {
-        if first.address == address {
-            return Some(first.shown.as_slice());
-        }
-        left = rest;
-    }
-    None
+    let label = first_at(labels, address)?;
+    Some(label.shown())
 }

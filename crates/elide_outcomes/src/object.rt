@@ -26,7 +26,7 @@ use serde::{Described, Serialize, Serializer};
 use std::alloc::{AllocError, Global};
 use text_out::Out;
 use tm_core::RunFault;
-use tm_outcomes::{Cycle, ReachedStop, Search, Stuck, Told};
+use tm_outcomes::{Cycle, FoundOutcome, ReachedStop, Search, Stuck};
 use tm_rule::Stop;
 
 /// Prints the object of a search whose outcomes stand in the order in which they are told, with the words of `--show`.
@@ -95,7 +95,7 @@ impl Serialize for SearchObject<'_, '_> {
     }
 }
 
-fn send_outcomes<S: Serializer>(outcomes: &[Told], out: &mut S) -> Result<(), S::Error>
+fn send_outcomes<S: Serializer>(outcomes: &[FoundOutcome], out: &mut S) -> Result<(), S::Error>
     ensures { OnOk result (SendsMember (codes "outcomes") (list_value outcome_value outcomes.now)
         (S.written out.old) (S.written out.new)) }
 {
@@ -103,7 +103,7 @@ fn send_outcomes<S: Serializer>(outcomes: &[Told], out: &mut S) -> Result<(), S:
     send_list(outcomes, out)
 }
 
-fn send_list<S: Serializer>(outcomes: &[Told], out: &mut S) -> Result<(), S::Error>
+fn send_list<S: Serializer>(outcomes: &[FoundOutcome], out: &mut S) -> Result<(), S::Error>
     ensures { OnOk result (SendsValue (list_value outcome_value outcomes.now) (S.written out.old) (S.written out.new)) }
 {
     out.begin_seq(Some(outcomes.len()))?;
@@ -113,7 +113,7 @@ fn send_list<S: Serializer>(outcomes: &[Told], out: &mut S) -> Result<(), S::Err
     out.end_seq()
 }
 
-fn send_outcome<S: Serializer>(told: &Told, out: &mut S) -> Result<(), S::Error>
+fn send_outcome<S: Serializer>(told: &FoundOutcome, out: &mut S) -> Result<(), S::Error>
     ensures { OnOk result (SendsValue (outcome_value told.now) (S.written out.old) (S.written out.new)) }
 {
     out.begin_map(Some(3))?;

@@ -11,7 +11,7 @@ use elide_args::{MachineOptions, OutcomesOptions};
 use elide_program::{Paths, number_of};
 use elide_setup::{Paged, Pages, Refusal, page_path};
 use std::alloc::Global;
-use tm_outcomes::Told;
+use tm_outcomes::FoundOutcome;
 
 /// `--page`: the page that is asked for.
 #[derive(Clone, Copy)]
@@ -58,7 +58,7 @@ impl<'a> PageAsked<'a> {
         alloc: Global,
         machine: &MachineOptions<'_>,
         text: &[u8],
-        told: &[Told],
+        told: &[FoundOutcome],
         pages: &W,
         paths: &mut P,
     ) -> Result<Paged, Refusal>

@@ -18,22 +18,22 @@ ghost use Rattle.elide_outcomes.specs.Lines.{item_text, outcome_line, outcome_li
 ghost use Rattle.elide_outcomes.specs.Lines.{states_text, step_text, stop_line};
 ghost use Rattle.elide_outcomes.specs.Lines.{stop_lines, stuck_line, stuck_lines, stuck_text, wayless_text};
 
-use crate::named::NamedAddress;
 use crate::names::label_at;
 use crate::naming::{tell_items, tell_name};
 use crate::violated::tell_violations;
 use elide_args::OutcomesOptions;
 use elide_shell::step_word;
 use itoa::Buffer;
+use symbols::Symbol;
 use text_out::page::{push, push_eight};
 use text_out::text_line::TextLine;
 use text_out::{Out, WriteFault};
 use tm_hist::stop_text;
 use tm_model::Pick;
-use tm_outcomes::{Cycle, ReachedStop, Search, Stuck, Told};
+use tm_outcomes::{Cycle, FoundOutcome, ReachedStop, Search, Stuck};
 
 /// Puts outcomes in the order of their values.
-pub fn sort(outcomes: &mut Vec<Told>)
+pub fn sort(outcomes: &mut Vec<FoundOutcome>)
     ensures { AreInOrder outcomes.old.items outcomes.new.items }
 {
     outcomes.sort_unstable_by(|left, right| left.values.cmp(&right.values));
@@ -44,7 +44,7 @@ pub fn sort(outcomes: &mut Vec<Told>)
 pub fn tell<O: Out>(
     options: &OutcomesOptions<'_>,
     words: &[&str],
-    labels: &[NamedAddress],
+    labels: &[Symbol],
     search: &Search,
     out: &mut O,
 ) -> Result<(), WriteFault>
@@ -75,8 +75,8 @@ fn has_words(words: &[&str]) -> bool
 // The line of each outcome, where something is shown of them.
 fn tell_shown<O: Out>(
     shows: bool,
-    labels: &[NamedAddress],
-    outcomes: &[Told],
+    labels: &[Symbol],
+    outcomes: &[FoundOutcome],
     out: &mut O,
 ) -> Result<(), WriteFault>
     ensures { OnOk result (Wrote (O.device out.old) (O.device out.new)
@@ -91,8 +91,8 @@ fn tell_shown<O: Out>(
 
 // The line of each outcome.
 fn tell_outcomes<O: Out>(
-    labels: &[NamedAddress],
-    outcomes: &[Told],
+    labels: &[Symbol],
+    outcomes: &[FoundOutcome],
     out: &mut O,
 ) -> Result<(), WriteFault>
     ensures { OnOk result (Wrote (O.device out.old) (O.device out.new) (outcome_lines labels.now outcomes.now)) }
@@ -104,7 +104,11 @@ fn tell_outcomes<O: Out>(
 }
 
 // The values, how many states show them, and the steps of a schedule.
-fn tell_outcome<O: Out>(labels: &[NamedAddress], told: &Told, out: &mut O) -> Result<(), WriteFault>
+fn tell_outcome<O: Out>(
+    labels: &[Symbol],
+    told: &FoundOutcome,
+    out: &mut O,
+) -> Result<(), WriteFault>
     ensures { OnOk result (Wrote (O.device out.old) (O.device out.new) (outcome_line labels.now told.now)) }
 {
     tell_values(labels, told.values.as_slice(), out)?;
@@ -114,11 +118,7 @@ fn tell_outcome<O: Out>(labels: &[NamedAddress], told: &Told, out: &mut O) -> Re
     Ok(())
 }
 
-fn tell_values<O: Out>(
-    labels: &[NamedAddress],
-    values: &[u32],
-    out: &mut O,
-) -> Result<(), WriteFault>
+fn tell_values<O: Out>(labels: &[Symbol], values: &[u32], out: &mut O) -> Result<(), WriteFault>
     ensures { OnOk result (Wrote (O.device out.old) (O.device out.new) (flat_map (item_text labels.now) values.now)) }
 {
     for value in values {
@@ -128,7 +128,7 @@ fn tell_values<O: Out>(
 }
 
 // A value, with the name of the label at it where there is one, and a space.
-fn tell_value<O: Out>(labels: &[NamedAddress], value: u32, out: &mut O) -> Result<(), WriteFault>
+fn tell_value<O: Out>(labels: &[Symbol], value: u32, out: &mut O) -> Result<(), WriteFault>
     ensures { OnOk result (Wrote (O.device out.old) (O.device out.new) (item_text labels.now value)) }
 {
     tell_digits(value, out)?;

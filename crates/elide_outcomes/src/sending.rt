@@ -5,13 +5,12 @@
 
 ghost use Rattle.std.specs.Prelude.{OnOk, codes, slice_get};
 ghost use Rattle.std.specs.Option.{option_copied};
-ghost use Rattle.elide_object.specs.Object.{SendsMember, list_value};
+ghost use Rattle.elide_object.specs.Object.{SendsMember, list_value, text_or_null};
 ghost use Rattle.serde_json.specs.Events.{SendsValue};
 ghost use Rattle.elide_outcomes.specs.Object.{forbid_value, option_value, violation_value};
-ghost use Rattle.elide_outcomes.specs.TextValues.{text_value};
 
 use elide_args::OutcomesOptions;
-use elide_object::{send_schedule, send_text};
+use elide_object::{send_schedule, send_text, send_text_or_null};
 use serde::Serializer;
 use tm_model::Pick;
 use tm_outcomes::Violation;
@@ -81,23 +80,12 @@ fn send_option<S: Serializer>(
     picks: &[Pick],
     out: &mut S,
 ) -> Result<(), S::Error>
-    ensures { OnOk result (SendsValue (option_value name.now (text_value (option_copied text.entry)) picks.now)
+    ensures { OnOk result (SendsValue (option_value name.now (text_or_null (option_copied text.entry)) picks.now)
         (S.written out.old) (S.written out.new)) }
 {
     out.begin_map(Some(3))?;
     send_text("option", name, out)?;
-    send_option_text(text, out)?;
+    send_text_or_null("text", text, out)?;
     send_schedule("schedule", picks, out)?;
     out.end_map()
-}
-
-fn send_option_text<S: Serializer>(text: Option<&str>, out: &mut S) -> Result<(), S::Error>
-    ensures { OnOk result (SendsMember (codes "text") (text_value (option_copied text.entry)) (S.written out.old)
-        (S.written out.new)) }
-{
-    out.key("text")?;
-    match text {
-        Some(text) => out.str(text),
-        None => out.unit(),
-    }
 }

@@ -2,7 +2,7 @@
 //!
 //! It ends no progress: `command` does, whatever the search came to.
 
-use elide_setup::Progress;
+use elide_device::Progress;
 use tm_outcomes::Watching;
 
 /// A place of progress that is told how many states a search has found, of at most so many.

@@ -1,7 +1,7 @@
 -- What stands in a page's data before its steps (docs/FORMATS.md, "Pages"; page/README.md).
 use Rattle.std.specs.Prelude.{◌≡◌, ℕ, Bool, true, false, List, [], ◌∷◌, ◌++◌, codes, decimal, length}
-use Rattle.page_program.specs.declared.program.Form.{Form}
-use Rattle.page_program.specs.declared.program.Form.TheVariants as form
+use Rattle.elide_program.specs.declared.form.Form.{Form}
+use Rattle.elide_program.specs.declared.form.Form.TheVariants as form
 use Rattle.page_run.specs.Plain.{ArePlain}
 use Rattle.page_text.specs.Escaped.{string_text}
 use Rattle.elide_page.specs.Names.{IsNameOf}

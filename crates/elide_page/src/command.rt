@@ -16,10 +16,11 @@ use crate::job::{Job, Subject, name_of};
 use crate::notes::check_notes;
 use crate::output::{write_page, write_page_to};
 use elide_args::PageOptions;
+use elide_device::Progress;
 use elide_places::Places;
-use elide_program::{Paths, ProgramFile, Settings, read_file};
-use elide_setup::{Course, Plan, Progress, Refusal, Setup};
-use page_program::{Form, Loaded, Sources};
+use elide_program::{Form, Paths, ProgramFile, Settings, read_file};
+use elide_setup::{Course, Plan, Refusal, Setup};
+use page_program::{Loaded, Sources};
 use page_run::{Stretch, Survey, surveyed};
 use std::alloc::Global;
 use text_out::Out;
@@ -65,6 +66,7 @@ struct Ready<'a> {
     text: &'a [u8],
     form: Form,
     setup: &'a Setup,
+    places: &'a Places,
     course: &'a Course,
 }
 
@@ -72,7 +74,6 @@ struct Ready<'a> {
 #[derive(Clone, Copy)]
 struct Known<'a> {
     survey: &'a Survey,
-    places: &'a Places,
     command: &'a [u8],
 }
 
@@ -105,43 +106,38 @@ fn page_given<P: Paths, O: Out + Drop, G: Progress>(
     out: O,
     progress: &mut G,
 ) -> Result<O, Refusal> {
-    let (setup, form) = setup_of(request.alloc, given.settings, given.text)?;
+    let (setup, places, form) = setup_of(request.alloc, given.settings, given.text)?;
     let course = plan.course(request.alloc, paths)?;
     let ready = Ready {
         text: given.text,
         form,
         setup: &setup,
+        places: &places,
         course: &course,
     };
     let written = page_ready(request, ready, paths, out, progress);
     drop(course);
+    drop(places);
     drop(setup);
     written
 }
 
-/// The program of a text, and what it is written as.
+/// The program of a text, its places, and what it is written as.
 pub fn setup_of(
     alloc: Global,
     settings: &Settings<'_>,
     text: &[u8],
-) -> Result<(Setup, Form), Refusal>
+) -> Result<(Setup, Places, Form), Refusal>
     ensures setup { IfOk result
         (λ made. (file : ProgramFile) × IsFile text.now file × IsSetup file settings.now made.0) }
     ensures none { IfErr result (GivesNoProgram text.now settings.now) }
 {
     let file = ProgramFile::read(alloc, text)?;
     let setup = Setup::of_file(alloc, settings, &file)?;
-    let form = form_of(&file);
+    let places = Places::of_file(alloc, &file, text)?;
+    let form = file.form();
     drop(file);
-    Ok((setup, form))
-}
-
-fn form_of(file: &ProgramFile<'_>) -> Form {
-    match file {
-        ProgramFile::Image(_) => Form::Image,
-        ProgramFile::Elf(_) => Form::Executable,
-        ProgramFile::Source(_) => Form::Source,
-    }
+    Ok((setup, places, form))
 }
 
 fn page_ready<P: Paths, O: Out + Drop, G: Progress>(
@@ -154,16 +150,13 @@ fn page_ready<P: Paths, O: Out + Drop, G: Progress>(
     let alloc = request.alloc;
     let asked = request.asked;
     let survey = surveyed(alloc, ready.setup, ready.course, asked.extent, progress)?;
-    let places = Places::of_text(alloc, ready.text)?;
     let command = command_of(alloc, request.options)?;
     let known = Known {
         survey: &survey,
-        places: &places,
         command: command.as_slice(),
     };
     let written = page_known(request, ready, known, paths, out);
     drop(command);
-    drop(places);
     drop(survey);
     written
 }
@@ -186,7 +179,7 @@ fn page_known<'x, P: Paths, O: Out + Drop>(
     let loaded = Loaded {
         alloc: request.alloc,
         setup: ready.setup,
-        places: known.places,
+        places: ready.places,
     };
     let sources = Sources::beside(loaded, path, survey.ran.as_slice(), paths)?;
     let job = Job {

@@ -16,8 +16,9 @@ ghost use Rattle.elide_page.specs.Fronts.{title_text_of, titles_text, writes_tex
 use crate::job::{Job, Subject, name_of};
 use crate::notes::write_notes;
 use crate::shows::{Shown, write_shown};
+use elide_program::Form;
 use elide_setup::Refusal;
-use page_program::{Form, write_program};
+use page_program::write_program;
 use page_run::{put_piece, put_plain};
 use page_text::{NAME, NOTE, TITLE, write_number, write_string};
 use std::alloc::AllocError;
@@ -239,7 +240,7 @@ fn write_labels<O: Out>(subject: &Subject<'_>, out: &mut O) -> Result<(), WriteF
             out.put(b",")?;
         }
         out.put(b"[")?;
-        write_number(u64::from(labels[index].address()), out)?;
+        write_number(u64::from(labels[index].value()), out)?;
         out.put(b",")?;
         write_string(labels[index].name(), NAME, out)?;
         out.put(b"]")?;

@@ -6,7 +6,8 @@
 ghost use Rattle.elide_page.specs.Names.{IsNameOf};
 
 use crate::notes::Note;
-use page_program::{Form, Loaded, Sources};
+use elide_program::Form;
+use page_program::{Loaded, Sources};
 use page_run::{Stretch, Survey};
 
 /// A program, and what is said of its page.

@@ -14,10 +14,11 @@ use crate::commanded::command_of_picks;
 use crate::job::{Job, Subject, name_of};
 use crate::output::write_page_to;
 use elide_args::MachineOptions;
+use elide_device::Silent;
 use elide_places::Places;
-use elide_program::{Paths, Settings};
-use elide_setup::{Course, Paged, Pages, Refusal, Setup, Silent};
-use page_program::{Form, Loaded, Sources};
+use elide_program::{Form, Paths, Settings};
+use elide_setup::{Course, Paged, Pages, Refusal, Setup};
+use page_program::{Loaded, Sources};
 use page_run::{Extent, MOST_STEPS, Stretch, Survey, surveyed};
 use std::alloc::Global;
 use tm_model::Pick;
@@ -55,6 +56,7 @@ struct Found<'a> {
     text: &'a [u8],
     form: Form,
     setup: &'a Setup,
+    places: &'a Places,
     course: &'a Course,
 }
 
@@ -70,17 +72,19 @@ fn page_of_picks<P: Paths>(
     ensures { IfErr result (IsNotPaged text.now machine.now picks.now) }
 {
     let settings = Settings::read(machine)?;
-    let (setup, form) = setup_of(alloc, &settings, text)?;
+    let (setup, places, form) = setup_of(alloc, &settings, text)?;
     let course = Course::Listed(Vec::from_slice(alloc, picks)?);
     let found = Found {
         machine,
         text,
         form,
         setup: &setup,
+        places: &places,
         course: &course,
     };
     let written = page_found(alloc, found, path, paths);
     drop(course);
+    drop(places);
     drop(setup);
     written
 }
@@ -94,16 +98,14 @@ fn page_found<P: Paths>(
     ensures { IfErr result (IsNoPage found.entry.setup.now found.entry.course.now) }
 {
     let survey = surveyed(alloc, found.setup, found.course, Extent::ALL, &mut Silent)?;
-    let places = Places::of_text(alloc, found.text)?;
     let command = command_listed(alloc, found)?;
     let loaded = Loaded {
         alloc,
         setup: found.setup,
-        places: &places,
+        places: found.places,
     };
     let written = page_surveyed(loaded, found, &survey, command.as_slice(), path, paths);
     drop(command);
-    drop(places);
     drop(survey);
     written
 }

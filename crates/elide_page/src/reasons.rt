@@ -15,7 +15,8 @@ ghost use Rattle.elide_page.specs.Reasons.{reason_text};
 ghost use Rattle.elide_page.specs.Refused.{IsUnreasoned};
 
 use crate::job::Job;
-use elide_setup::{Refusal, Silent, StepMaker, new_machine};
+use elide_device::Silent;
+use elide_setup::{Refusal, StepMaker, new_machine};
 use elide_why::Teller;
 use page_run::{Stretch, Window, put_plain};
 use page_text::{REASON, write_number, write_string};

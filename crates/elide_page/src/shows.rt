@@ -10,12 +10,13 @@ ghost use Rattle.text_out.specs.Writing.{Wrote};
 ghost use Rattle.elide_page.specs.Fronts.{shown_text, shows_text};
 
 use crate::notes::write_comma;
-use elide_places::{Label, Places};
+use elide_places::Places;
 use elide_setup::Setup;
 use page_program::Loaded;
 use page_run::{LineUse, Survey};
 use page_text::{NAME, write_number, write_string};
 use std::alloc::AllocError;
+use symbols::Symbol;
 use text_out::{Out, WriteFault};
 
 /// The most variables that are shown where none are asked for.
@@ -91,13 +92,13 @@ fn add_labels<'a, F: Fn(LineUse) -> bool>(
 // Whether a label stands outside of the code, on a line of such a use, with four bytes of memory behind it.
 fn is_variable<F: Fn(LineUse) -> bool>(
     setup: &Setup,
-    label: &Label,
+    label: &Symbol,
     survey: &Survey,
     is_used: &F,
 ) -> bool
     requires { F.IsAlwaysCallable is_used.now }
 {
-    let address = label.address();
+    let address = label.value();
     if is_in_code(setup, address) || address > setup.program.mem_size().saturating_sub(4) {
         return false;
     }
@@ -115,8 +116,8 @@ fn is_in_code(setup: &Setup, address: u32) -> bool {
 }
 
 // Adds a label, where it does not stand there.
-fn add_label<'a>(list: &mut Vec<Shown<'a>>, label: &'a Label) -> Result<(), AllocError> {
-    let address = label.address();
+fn add_label<'a>(list: &mut Vec<Shown<'a>>, label: &'a Symbol) -> Result<(), AllocError> {
+    let address = label.value();
     let name = label.name();
     if !list
         .iter()

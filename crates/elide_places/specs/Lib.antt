@@ -1,1 +1,2 @@
+pub mod FileSymbols
 pub mod Shown

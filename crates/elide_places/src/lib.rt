@@ -1,19 +1,17 @@
-//! Where the instructions and the labels of a program stand, and how names are shown.
+//! Where the instructions and the labels of a program stand, and which symbols its file has.
 //!
-//! Promised: the name of a symbol is shown by bytes of `!` to `~` alone, and one that has no other bytes and no
-//! backslash as it is (`specs/Shown.antt`). Of places no more than safety: what is told by them is compared by
-//! `doc_tests`. Stands on the assembler's own reading and placing of a source (`ia_source`, `ia_layout`) and on the
-//! readers of executables and of their line numbers (`ia_elf`, `ia_lines`).
+//! Promised: of the symbols of a file each name stands for what it stands for there (`specs/FileSymbols.antt`), and a
+//! row of names that are shown has printable ASCII alone. Of places no more than safety: what is told by them is
+//! compared by `doc_tests`. Stands on the file that was read (`elide_program`), whose assembly keeps the places of a
+//! source (`ia_asm`), on the readers of executables and of their line numbers (`ia_elf`, `ia_lines`), and on `symbols`.
 #![tactic(auto)]
 
-mod label;
+mod file_symbols;
 mod places;
-mod shown;
 mod source_text;
-mod symbols;
+mod symbol_text;
 
-pub use label::Label;
+pub use file_symbols::symbols_of;
 pub use places::Places;
-pub use shown::shown_name;
 pub use source_text::push_source_place;
-pub use symbols::{Naming, SymbolText, push_code_place, push_symbols};
+pub use symbol_text::{Naming, SymbolText, push_code_place, push_symbols};

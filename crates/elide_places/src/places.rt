@@ -1,19 +1,15 @@
-//! The places of a program's text: which line or symbol stands at an address.
+//! The places of a program: which line or symbol stands at an address.
 //!
-//! [`Places::of_text`] reads the text once more, by its form, beside the program that was made of it. A source is gone
-//! over three times: for its base, for the end of its code, and for its places. A text that is refused has no places,
-//! and that is no fault here: who reads the program tells it. Want of memory is the only refusal.
+//! [`Places::of_file`] takes them from the file that was read. Those of a source the assembly kept; of an executable
+//! they are its symbols and, out of the sections of its text, its line numbers. Want of memory is the only refusal.
 
-ghost use Rattle.ia_layout.specs.Contents.{IsBounded};
-
-use crate::label::Label;
-use ia_elf::{Elf, ElfFault, is_elf, read_elf, section_named};
-use ia_item::Item;
-use ia_layout::{FirstOrg, NoTaker, PlacedEntry, Placer, Taker, tail_base};
+use elide_program::ProgramFile;
+use ia_asm::{ProgramImage, SymbolKind};
+use ia_elf::{Elf, section_named};
 use ia_lines::{Lines, Place, Sections, read_lines};
-use ia_source::{Reader, SourceFault};
 use indexmap::IndexMap;
 use std::alloc::{AllocError, Global};
+use symbols::{Symbol, first_nearest};
 
 /// The end of the largest memory: 256 MiB.
 const MOST_MEMORY: u32 = 268_435_456;
@@ -23,7 +19,7 @@ const MOST_MEMORY: u32 = 268_435_456;
 #[derive(Drop)]
 pub struct Places {
     lines: IndexMap<u32, u32>,
-    labels: Vec<Label>,
+    labels: Vec<Symbol>,
     end: u32,
     // Where the code of an executable ends, whose places are told by its symbols.
     code_end: u32,
@@ -43,23 +39,16 @@ impl Places {
         }
     }
 
-    /// The places of a program's text: those of a source or an executable, and none of image text. Nor has a text that
-    /// is refused any.
-    pub fn of_text(alloc: Global, text: &[u8]) -> Result<Places, AllocError> {
-        if is_elf(text) {
-            return match read_elf(alloc, text) {
-                Ok(elf) => Places::of_elf(alloc, &elf, text),
-                Err(ElfFault::NoMemory) => Err(AllocError),
-                Err(_) => Ok(Places::none(alloc)),
-            };
-        }
-        if text.starts_with(b"image 1 ") {
-            return Ok(Places::none(alloc));
-        }
-        match Places::of_source(alloc, text) {
-            Ok(places) => Ok(places),
-            Err(SourceFault::NoMemory) => Err(AllocError),
-            Err(SourceFault::Line { .. }) => Ok(Places::none(alloc)),
+    /// The places of a file that was read from this text: those of a source or an executable, and none of image text.
+    pub fn of_file(
+        alloc: Global,
+        file: &ProgramFile<'_>,
+        text: &[u8],
+    ) -> Result<Places, AllocError> {
+        match file {
+            ProgramFile::Image(_) => Ok(Places::none(alloc)),
+            ProgramFile::Elf(elf) => Places::of_elf(alloc, elf, text),
+            ProgramFile::Source(program) => Places::of_source(alloc, program),
         }
     }
 
@@ -72,7 +61,9 @@ impl Places {
         for index in 0..elf.symbol_count() {
             if let Some(symbol) = elf.symbol_at(index) {
                 if elf.base() <= symbol.value && symbol.value < MOST_MEMORY {
-                    places.labels.push(Label::of_symbol(alloc, symbol)?)?;
+                    places
+                        .labels
+                        .push(Symbol::of(alloc, &[], symbol.name, symbol.value)?)?;
                 }
             }
         }
@@ -80,44 +71,26 @@ impl Places {
         Ok(places)
     }
 
-    // The places of what a source asks for.
-    fn of_source(alloc: Global, source: &[u8]) -> Result<Places, SourceFault> {
-        let mut reader = Reader::new(alloc, source);
-        let mut first = FirstOrg::new();
-        reader.go_over(&mut first)?;
-        let base = first.base();
-        let mut code = Placer::new(alloc, base, 0, NoTaker);
-        reader.go_over(&mut code)?;
-        let tail = tail_base(code.walk.end()?);
-        let taker = PlaceTaker {
-            alloc,
-            places: Places::none(alloc),
-        };
-        let mut placer = Placer::new(alloc, base, tail, taker);
-        reader.go_over(&mut placer)?;
-        Ok(placer.taker.places)
+    // The places of a source that is assembled.
+    fn of_source(alloc: Global, program: &ProgramImage<'_>) -> Result<Places, AllocError> {
+        let mut places = Places::none(alloc);
+        let size = u32::try_from(program.image.len()).unwrap_or(u32::MAX);
+        places.end = program.base.saturating_add(size);
+        for line in program.lines.as_slice() {
+            places.lines.insert(line.address, line.line)?;
+        }
+        places.add_labels(alloc, program)?;
+        Ok(places)
     }
 
-    // Takes in what stands at a place, unless it lies past all memory.
-    fn add(&mut self, alloc: Global, spot: &PlacedEntry<'_, '_>) -> Result<(), AllocError>
-        requires { IsBounded spot.now }
-    {
-        if spot.at >= 1 << 32 {
-            return Ok(());
-        }
-        let at = spot.at as u32;
-        match &spot.entry.item {
-            Item::Label(definition) => {
-                self.labels.push(Label::of(alloc, &definition.name, at)?)?;
+    // Adds the labels of a source. One that stands at 2^32, behind the last address, has the value 0, and is left out.
+    fn add_labels(&mut self, alloc: Global, program: &ProgramImage<'_>) -> Result<(), AllocError> {
+        for ((name, value), kind) in program.symbols.iter().zip(program.kinds.iter()) {
+            if *kind == SymbolKind::Label && *value >= program.base {
+                self.labels
+                    .push(Symbol::of(alloc, name.scope, name.own, *value)?)?;
             }
-            Item::Code(_) => {
-                self.lines.insert(at, spot.entry.line)?;
-            }
-            _ => {}
         }
-        self.end = at
-            .saturating_add(u32::try_from(spot.size).unwrap_or(u32::MAX))
-            .max(self.end);
         Ok(())
     }
 
@@ -126,10 +99,11 @@ impl Places {
         self.lines.get(&address).copied()
     }
 
-    /// The symbol of an executable's code with the greatest address up to this one, of an address in the code.
-    pub fn code_label(&self, address: u32) -> Option<&Label> {
+    /// The symbol of an executable's code with the greatest address up to this one, of an address in the code; of
+    /// several the first.
+    pub fn code_label(&self, address: u32) -> Option<&Symbol> {
         if address < self.code_end {
-            last_up_to(self.labels.as_slice(), address)
+            first_nearest(self.labels.as_slice(), u64::from(address) + 1)
         } else {
             None
         }
@@ -142,8 +116,13 @@ impl Places {
     }
 
     /// The labels, in the order of the source or of the table of symbols.
-    pub fn labels(&self) -> &[Label] {
+    pub fn labels(&self) -> &[Symbol] {
         self.labels.as_slice()
+    }
+
+    /// The same, for who needs nothing else of the places.
+    pub fn into_labels(self) -> Vec<Symbol> {
+        self.labels
     }
 
     /// The address behind the last byte of the image.
@@ -167,44 +146,5 @@ fn section_of<'a>(text: &'a [u8], name: &[u8]) -> &'a [u8] {
     match section_named(text, name) {
         Some(bytes) => bytes,
         None => &[],
-    }
-}
-
-// Takes the places of what a source asks for.
-#[derive(Drop)]
-struct PlaceTaker {
-    alloc: Global,
-    places: Places,
-}
-
-impl<'a> Taker<'a> for PlaceTaker {
-    // No more is said of the places than that they are taken.
-    ghost Taken = { λ _ _ _. Unit {0} };
-
-    ghost stays = { λ _. tt };
-
-    ghost goes_on = { λ _ _ _ _ _ _ _. tt };
-
-    fn take(&mut self, spot: &PlacedEntry<'a, '_>) -> Result<(), AllocError> {
-        self.places.add(self.alloc, spot)
-    }
-}
-
-// The label with the greatest address up to this one; of several the first.
-fn last_up_to(labels: &[Label], address: u32) -> Option<&Label> {
-    let mut last = None;
-    for label in labels {
-        if label.address() <= address && is_later(label, last) {
-            last = Some(label);
-        }
-    }
-    last
-}
-
-// Whether a label stands above the last one so far.
-fn is_later(label: &Label, last: Option<&Label>) -> bool {
-    match last {
-        Some(last) => last.address() < label.address(),
-        None => true,
     }
 }

@@ -9,10 +9,10 @@ ghost use Rattle.std.specs.List.{list_all};
 ghost use Rattle.elide_places.specs.Shown.{is_printable};
 
 use crate::places::Places;
-use crate::shown::is_plain;
-use crate::symbols::{SymbolText, push_cut, push_where_room};
+use crate::symbol_text::{SymbolText, push_cut, push_where_room};
 use arrayvec::ArrayVec;
 use itoa::Buffer;
+use symbols::is_plain;
 use text_out::page::push;
 
 /// The name of a file: the longest has 255 bytes.

@@ -20,6 +20,8 @@ use Rattle.elide_program.specs.declared.fault.ProgramRefusal.{ProgramRefusal}
 use Rattle.elide_program.specs.declared.fault.ProgramRefusal.TheVariants as refusal
 use Rattle.elide_program.specs.declared.file.ProgramFile.{ProgramFile}
 use Rattle.elide_program.specs.declared.file.ProgramFile.TheVariants.{Image, Elf, Source}
+use Rattle.elide_program.specs.declared.form.Form.{Form}
+use Rattle.elide_program.specs.declared.form.Form.TheVariants as form
 
 -- the text begins as image text does
 abbrev pub is_image : List ℕ → Bool
@@ -28,6 +30,12 @@ is_image text = starts_with nat_eq text (codes "image 1 ")
 -- a text that begins neither so nor as an ELF file does is a source
 abbrev pub IsSource : List ℕ → Type 0
 IsSource text = (is_image text ≡ false) × ¬ IsMagic text
+
+-- a text is written so
+abbrev pub IsForm : List ℕ → Form → Type 0
+IsForm text form.Image = (is_image text ≡ true) × ¬ IsMagic text
+IsForm text form.Executable = IsMagic text
+IsForm text form.Source = IsSource text
 
 -- the text is read as this program
 abbrev pub IsFile : List ℕ → ProgramFile → Type 0
@@ -46,6 +54,11 @@ pub record IsRead (content : Option (List ℕ)) (file : ProgramFile) : Type 0 wh
 -- the refusal tells the first fault that an ELF file has
 abbrev pub TellsElf : List ℕ → ProgramRefusal → Type 0
 TellsElf text why = (f : ElfFault) × (why ≡ refusal.Fault (fault.Elf f)) × IsFirstFault text f
+
+abbrev pub file_form : ProgramFile → Form
+file_form (Image image) = form.Image
+file_form (Elf elf) = form.Executable
+file_form (Source program) = form.Source
 
 abbrev pub file_bytes : ProgramFile → List ℕ
 file_bytes (Image image) = image.bytes.items

@@ -1,24 +1,24 @@
 //! FILE as a program: image text, an executable in ELF, or a source that is assembled.
 //!
-//! [`read_file`] reads it whole, and [`ProgramFile::read`] chooses by how it begins: what is neither ELF nor image text
-//! is a source. Then come the entries ([`ProgramFile::starts`]), and last [`ProgramFile::load`], which tests the cores
-//! and the memory, and behind that the zeros of an executable. Warnings of a source are told beside this, by `warned`.
+//! [`read_file`] reads it whole, which tells the warnings of a source (`warned`), and [`ProgramFile::read`] chooses by
+//! its [`Form`]. Then come the entries ([`ProgramFile::starts`]), and last [`ProgramFile::load`], which tests the cores
+//! and the memory, and behind that the zeros of an executable.
 
-ghost use Rattle.std.specs.Prelude.{◌≡◌, ◌≢◌, ◌<◌, ◌≤◌, ◌↔◌, ◌⊎◌, IfErr, IfOk, IsTrue, List, MatchResult, None, Some};
+ghost use Rattle.std.specs.Prelude.{◌≡◌, ◌≢◌, ◌<◌, ◌≤◌, ◌⊎◌, IfErr, IfOk, List, MatchResult, None, Some};
 ghost use Rattle.std.specs.Prelude.{codes, length, min, replicate, ℕ};
 ghost use Rattle.elide_program.specs.Entries.{AreStarts, for_cores};
 ghost use Rattle.elide_program.specs.Faults.{unread, unread_source};
 ghost use Rattle.elide_program.specs.Files.{Gives, Tells, most_bytes};
-ghost use Rattle.elide_program.specs.ProgramFile.{IsSource, is_image};
 ghost use Rattle.elide_program.specs.Refusals.{HasNoStart, IsWant, NamesOption};
 ghost use Rattle.ia_elf.specs.Fields.{IsMagic};
 
 use crate::entries::EntryList;
 use crate::fault::{ProgramFault, ProgramRefusal};
+use crate::form::Form;
 use crate::paths::{Paths, ReadFault};
 use crate::settings::Settings;
 use ia_asm::{AsmFault, ProgramImage, assemble_image};
-use ia_elf::{Elf, is_elf, read_elf};
+use ia_elf::{Elf, read_elf};
 use ia_image::{ImageText, LoadFault, Program, load, read_image};
 use std::alloc::Global;
 
@@ -36,7 +36,7 @@ pub enum ProgramFile<'a> {
 /// The most bytes of a file that is read: 640 MiB, more than the image text of the greatest memory takes.
 pub const MOST_BYTES: usize = 671_088_640;
 
-/// The content of a program's file, of at most [`MOST_BYTES`].
+/// The content of a program's file, of at most [`MOST_BYTES`]; its warnings are told.
 pub fn read_file<P: Paths>(path: &str, paths: &mut P) -> Result<Vec<u8>, ProgramRefusal>
     ensures given { MatchResult result
         (λ bytes. Gives (P.content paths.old path.now) most_bytes bytes.items)
@@ -44,19 +44,26 @@ pub fn read_file<P: Paths>(path: &str, paths: &mut P) -> Result<Vec<u8>, Program
     ensures kept { (other : List ℕ) → P.content paths.new other ≡ P.content paths.old other }
 {
     match paths.read(path, MOST_BYTES) {
-        Ok(text) => Ok(text),
+        Ok(text) => {
+            paths.warn_of(text.as_slice());
+            Ok(text)
+        }
         Err(fault) => Err(ProgramRefusal::Fault(ProgramFault::from(fault))),
     }
 }
 
-/// The content of a source's file, of at most [`MOST_BYTES`]. Want of memory is the assembler's fault.
+/// The content of a source's file, of at most [`MOST_BYTES`]; its warnings are told. Want of memory is the assembler's
+/// fault.
 pub fn read_source<P: Paths>(path: &str, paths: &mut P) -> Result<Vec<u8>, ProgramRefusal>
     ensures { MatchResult result
         (λ bytes. Gives (P.content paths.old path.now) most_bytes bytes.items)
         (λ refusal. Tells unread_source (P.content paths.old path.now) refusal) }
 {
     match paths.read(path, MOST_BYTES) {
-        Ok(text) => Ok(text),
+        Ok(text) => {
+            paths.warn_of(text.as_slice());
+            Ok(text)
+        }
         Err(ReadFault::NoMemory) => {
             Err(ProgramRefusal::Fault(ProgramFault::Assemble(AsmFault::NoMemory)))
         }
@@ -64,48 +71,42 @@ pub fn read_source<P: Paths>(path: &str, paths: &mut P) -> Result<Vec<u8>, Progr
     }
 }
 
-/// Whether a text begins as image text does.
-pub fn is_image(text: &[u8]) -> bool
-    ensures { result ≡ is_image text.now }
-{
-    text.starts_with(b"image 1 ")
-}
-
-/// Whether a text is a source: it begins neither as image text does nor as an ELF file.
-pub fn is_source(text: &[u8]) -> bool
-    ensures { IsTrue result ↔ IsSource text.now }
-{
-    !is_image(text) && !is_elf(text)
-}
-
 impl<'a> ProgramFile<'a> {
     ghost use Rattle.elide_program.specs.ProgramFile.{IsFile, IsFileSymbol, TellsElf, TellsLoad};
-    ghost use Rattle.elide_program.specs.ProgramFile.{file_base, file_bytes, file_code_len, file_end, file_start};
-    ghost use Rattle.elide_program.specs.ProgramFile.{loaded};
+    ghost use Rattle.elide_program.specs.ProgramFile.{file_base, file_bytes, file_code_len, file_end, file_form};
+    ghost use Rattle.elide_program.specs.ProgramFile.{file_start, loaded};
     ghost use Rattle.elide_program.specs.Refusals.{HasNoStarts, IsNoProgram};
 
-    /// A text as a program: image text where it begins with `image 1 `, an executable where it begins with the bytes
-    /// 7f 45 4c 46, else a source.
+    /// A text as a program of its form.
     pub fn read(alloc: Global, text: &'a [u8]) -> Result<ProgramFile<'a>, ProgramRefusal>
         ensures file { IfOk result (λ file. IsFile text.now file) }
         ensures fault { IfErr result (λ refusal. IsMagic text.now → TellsElf text.now refusal) }
         ensures none { IfErr result (IsNoProgram text.now) }
     {
-        if is_elf(text) {
-            match read_elf(alloc, text) {
+        match Form::of(text) {
+            Form::Executable => match read_elf(alloc, text) {
                 Ok(elf) => Ok(ProgramFile::Elf(elf)),
                 Err(fault) => Err(ProgramRefusal::Fault(ProgramFault::Elf(fault))),
-            }
-        } else if is_image(text) {
-            match read_image(alloc, text) {
+            },
+            Form::Image => match read_image(alloc, text) {
                 Ok(image) => Ok(ProgramFile::Image(image)),
                 Err(fault) => Err(ProgramRefusal::Fault(ProgramFault::Image(fault))),
-            }
-        } else {
-            match assemble_image(alloc, text) {
+            },
+            Form::Source => match assemble_image(alloc, text) {
                 Ok(program) => Ok(ProgramFile::Source(program)),
                 Err(fault) => Err(ProgramRefusal::Fault(ProgramFault::Assemble(fault))),
-            }
+            },
+        }
+    }
+
+    /// What it is written as.
+    pub fn form(&self) -> Form
+        ensures { result ≡ file_form self.now }
+    {
+        match self {
+            ProgramFile::Image(_) => Form::Image,
+            ProgramFile::Elf(_) => Form::Executable,
+            ProgramFile::Source(_) => Form::Source,
         }
     }
 

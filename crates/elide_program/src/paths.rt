@@ -87,6 +87,12 @@ pub trait Paths {
         ensures failed { OnErr result (IsNotWritten T.tells T.breaks text.old text.new) }
         ensures kept { T.keeps text.new };
 
+    /// Is handed the text of a program that was read, before anything is told of it, and tells its warnings where there
+    /// is a device for them. Here there is none. No file is changed.
+    fn warn_of(&mut self, _text: &[u8])
+        ensures kept { (other : List ℕ) → content self.new other ≡ content self.old other }
+    {}
+
     /// Whether both paths lead to one regular file. No file is changed.
     fn is_same_file(&mut self, path: &str, other: &str) -> bool
         ensures told { IfSome (are_one self.old path.now other.now) (λ one. result ≡ one) }

@@ -1,11 +1,10 @@
 -- Why a replay is refused, from what one call tells up to what the command is asked.
-use Rattle.std.proofs.Common.{◌≡◌, ◌<◌, ◌≤◌, ℕ, Bool, List, [], Option, ◌⊎◌, ◌∙◌, length, arith, ap, sym, inl, inr}
+use Rattle.std.proofs.Common.{◌≡◌, ◌<◌, ◌≤◌, ℕ, Bool, List, [], Option, ◌∙◌, length, arith, ap, sym, inl, inr}
 use Rattle.elide_args.specs.declared.subcommand.ReplayOptions.{ReplayOptions}
 use Rattle.std.proofs.lemmas.List.{length-map}
 use Rattle.std.specs.Borrow.{Bor}
 use Rattle.std.specs.Prelude.{All, max}
 use Rattle.elide_json.specs.Refused.{IsUnsent}
-use Rattle.elide_setup.specs.Faults.{want}
 use Rattle.elide_setup.proofs.Runs.{made_all}
 use Rattle.elide_setup.specs.Refused.{IsDue, IsNoStep, IsNoWalk, IsNotScheduled, full, no_core}
 use Rattle.elide_setup.specs.Runs.{AreBoardSteps}
@@ -19,17 +18,16 @@ use Rattle.elide_setup.proofs.DueCores.{due_core, due_few}
 use Rattle.elide_why.proofs.Refusing.{scheduled_before}
 use Rattle.tm_model.specs.declared.outcome.Outcome.{Outcome}
 use Rattle.tm_model.specs.declared.outcome.Pick.{Pick}
-use Rattle.elide_replay.specs.Refused.{IsNotCompared, IsNotMade, IsRefused, no_room, unheld, unlisted, unroomed}
+use Rattle.elide_replay.specs.Refused.{IsNotCompared, IsNotMade, IsRefused, unheld, unlisted, unroomed}
 use Rattle.elide_replay.specs.Refused.{unscheduled, unwritten}
 
--- there is no program, no schedule or no memory for what is told of the program
+-- there is no program or no schedule
 pub of_opening : (content after : List ℕ → Option (List ℕ)) (are_one : List ℕ → List ℕ → Option Bool)
     (options : ReplayOptions) (why : Refusal) →
     ((other : List ℕ) → after other ≡ content other)
-    → IsNotScheduled after options.machine options.schedule why ⊎ (why ≡ want) → IsRefused content are_one options why
-of_opening content after are_one options why kept (inl h) =
+    → IsNotScheduled after options.machine options.schedule why → IsRefused content are_one options why
+of_opening content after are_one options why kept h =
     unscheduled (scheduled_before content after options.machine options.schedule why kept h)
-of_opening content after are_one options why kept (inr none) = no_room (inl none)
 
 -- a board that has the room and the cores of a course makes each step that is due
 steps_due : (asked : Course) (cores : ℕ) (made : List (Pick × Outcome)) (first last : Board) (pick : Pick)

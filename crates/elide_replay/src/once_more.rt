@@ -10,7 +10,6 @@ ghost use Rattle.text_out.specs.Writing.{Wrote};
 ghost use Rattle.tm_model.specs.declared.outcome.Outcome.{Outcome};
 ghost use Rattle.tm_model.specs.declared.outcome.Pick.{Pick};
 ghost use Rattle.tm_model.specs.Runs.{picks_of};
-ghost use Rattle.elide_setup.specs.Faults.{want};
 ghost use Rattle.elide_setup.specs.Recorded.{IsRecorded};
 ghost use Rattle.elide_setup.specs.Refused.{IsAnyWant, IsCourseOf, IsNoBoard, IsNotScheduled, IsUnrecorded};
 ghost use Rattle.elide_setup.specs.Refused.{IsUnwritten};
@@ -30,18 +29,17 @@ ghost use Rattle.tm_hist.specs.Replay.{Replays};
 
 use crate::agreement::{Agreement, agreement_of};
 use elide_args::ReplayOptions;
+use elide_device::{Gathered, Progress};
 use elide_json::put_replay;
 use elide_program::Paths;
 use elide_setup::{
-    Course, Fault, Gathered, Progress, Refusal, Setup, ShownMemory, record, record_path, scheduled,
-    show, shown_memory,
+    Course, Fault, Opened, Refusal, Setup, ShownMemory, record, record_path, show, shown_memory,
 };
-use elide_why::{NamedPlaces, scheduled_places, tell_history};
-use std::alloc::{AllocError, Global};
+use elide_why::{NamedPlaces, tell_history};
+use std::alloc::Global;
 use text_out::Out;
 use tm_core::RunFault;
 use tm_hist::{Board, Serial};
-use tm_model::Pick;
 
 /// Runs a schedule on a board, and its history again on one memory; prints the aborts with their reasons where they are
 /// asked for, the state, what is asked for of memory, and whether both ended alike, which they always do: a board's
@@ -169,7 +167,7 @@ fn write_record<P: Paths>(
     if path.is_none() {
         return Ok(());
     }
-    match picks_of(alloc, board) {
+    match board.history().picks(alloc) {
         Ok(picks) => record(path, picks.as_slice(), paths),
         Err(_) => Err(Refusal::Fault(Fault::Run(RunFault::NoMemory))),
     }
@@ -187,19 +185,18 @@ fn begun<P: Paths>(
     ensures course { IfOk result (λ r. IsCourseOf (P.content paths.old) options.now.schedule r.1) }
     ensures places { IfOk result (λ r. options.now.explains ≡ false → r.2 ≡ None) }
     ensures none { IfErr result
-        (λ why. IsNotScheduled (P.content paths.old) options.now.machine options.now.schedule why
-        ⊎ (why ≡ want)) }
+        (IsNotScheduled (P.content paths.old) options.now.machine options.now.schedule) }
 {
-    if options.explains {
-        let (setup, course, places) = scheduled_places(
-            alloc,
-            &options.machine,
-            &options.schedule,
-            paths,
-        )?;
+    let explains = options.explains;
+    let opened = Opened::read(alloc, &options.machine, &options.schedule, explains, paths)?;
+    let Opened {
+        setup,
+        course,
+        places,
+    } = opened;
+    if explains {
         Ok((setup, course, Some(NamedPlaces { places, names })))
     } else {
-        let (setup, course) = scheduled(alloc, &options.machine, &options.schedule, paths)?;
         Ok((setup, course, None))
     }
 }
@@ -293,16 +290,4 @@ fn text_of(agreement: Agreement) -> &'static [u8]
         Agreement::Agrees => b"agree\n",
         Agreement::Differs => b"differ\n",
     }
-}
-
-// The pick of each step of a board: an event that aborted nothing is left out.
-fn picks_of(alloc: Global, board: &Board) -> Result<Vec<Pick>, AllocError>
-    ensures { IfOk result (λ picks. picks.items ≡ picks_of board.now.history) }
-{
-    let history = board.history();
-    let mut picks = Vec::with_capacity(alloc, history.len())?;
-    for index in 0..history.len() {
-        picks.push(history.pick_at(index).unwrap())?;
-    }
-    Ok(picks)
 }

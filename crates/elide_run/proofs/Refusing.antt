@@ -6,7 +6,6 @@ use Rattle.elide_args.specs.declared.subcommand.RunOptions.{RunOptions}
 use Rattle.tm_model.specs.declared.outcome.Outcome.{Outcome}
 use Rattle.tm_model.specs.declared.outcome.Pick.{Pick}
 use Rattle.elide_json.specs.Refused.{IsUnsaid, IsUnsent}
-use Rattle.elide_setup.specs.Faults.{want}
 use Rattle.elide_setup.specs.Refused.{IsCourseOf, IsDue, IsNoWalk, IsNotScheduled, IsUnrecorded, IsUnwritten}
 use Rattle.elide_setup.specs.Runs.{IsRunOf}
 use Rattle.elide_setup.specs.Schedules.{listed_in}
@@ -64,14 +63,13 @@ of_walk takes refuses machine setup asked cores path before why same fit ran tol
     untold (inr (inr none))
 of_walk takes refuses machine setup asked cores path before why same fit ran told (inr h) = unrecorded h
 
--- there is no program, no schedule or no memory for what is told of the program
+-- there is no program or no schedule
 pub of_opening : (content after : List ℕ → Option (List ℕ)) (are_one : List ℕ → List ℕ → Option Bool)
     (options : RunOptions) (why : Refusal) →
     ((other : List ℕ) → after other ≡ content other)
-    → IsNotScheduled after options.machine options.schedule why ⊎ (why ≡ want) → IsRefused content are_one options why
-of_opening content after are_one options why kept (inl h) =
+    → IsNotScheduled after options.machine options.schedule why → IsRefused content are_one options why
+of_opening content after are_one options why kept h =
     unscheduled (scheduled_before content after options.machine options.schedule why kept h)
-of_opening content after are_one options why kept (inr none) = no_room (inl none)
 
 -- there is no run along a course
 pub of_run : (content : List ℕ → Option (List ℕ)) (are_one : List ℕ → List ℕ → Option Bool) (options : RunOptions)

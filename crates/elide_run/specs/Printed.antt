@@ -1,20 +1,23 @@
 -- What `elide run` prints (docs/FORMATS.md, "Printed lines"): the lines of its steps, and below them the state of the
 -- machine that these steps made of FILE's program.
 use Rattle.std.specs.Prelude.{◌≡◌, ℕ, Bool, false, List, [], ◌++◌, Option, if◌then◌else◌, length}
+use Rattle.std.specs.Borrow.{Bor}
 use Rattle.std.specs.Io.KnownBytes.{Appends}
 use Rattle.std.specs.List.{flat_map}
 use Rattle.elide_args.specs.declared.subcommand.RunOptions.{RunOptions}
 use Rattle.elide_setup.specs.Recorded.{IsRecorded}
-use Rattle.elide_setup.specs.Rounds.{IsAskedOut}
+use Rattle.elide_setup.specs.Rounds.{IsAskedOut, IsOut}
 use Rattle.elide_setup.specs.Runs.{IsRunOf}
 use Rattle.tm_model.specs.declared.outcome.Outcome.{Outcome}
 use Rattle.tm_model.specs.declared.outcome.Pick.{Pick}
-use Rattle.elide_setup.specs.Schedules.{AreAsked, picks_made, schedule_asked}
+use Rattle.elide_setup.specs.Schedules.{AreAsked, AreOf, picks_made, picks_told, schedule_asked, schedule_made}
 use Rattle.elide_setup.specs.Setup.{IsAsked}
 use Rattle.elide_setup.specs.Shown.{IsShownOf, shown_text}
 use Rattle.tm_core.specs.Theorem.{ShownMachine as Machine}
 use Rattle.tm_hist.specs.Lines.{outcome_line}
 use Rattle.elide_setup.specs.declared.machine.Setup.{Setup}
+use Rattle.elide_setup.specs.declared.opened.Opened.{Opened}
+use Rattle.text_out.specs.Writing.{Device, Wrote}
 use Rattle.elide_setup.specs.declared.shown.ShownMemory.{ShownMemory}
 use Rattle.elide_run.specs.Halting.{asked_ending, asked_lines}
 use Rattle.elide_run.specs.declared.halting.Ending.{Ending}
@@ -26,6 +29,27 @@ outcome_lines steps = flat_map (λ made. outcome_line made.0.core made.1) steps
 -- where they are asked for
 abbrev pub trace_text : Bool → List (Pick × Outcome) → List ℕ
 trace_text traces steps = if traces then outcome_lines steps else []
+
+-- the steps of what was opened were made by the rules, a text was written of them, and the file that the schedule is
+-- recorded in is left with theirs
+abbrev pub HasStepped : (List ℕ → Option (List ℕ)) → Opened → Option (Bor (List ℕ)) → Device → Machine → Device → Type 0
+HasStepped left opened path before machine after =
+    (made : List (Pick × Outcome)) × AreOf opened.course (picks_made made)
+    × IsRunOf opened.setup.program opened.setup.limits made machine × (text : List ℕ) × Wrote before after text
+    × IsRecorded left path (schedule_made opened.course (picks_told made))
+    × IsOut opened.course (length opened.setup.program.entries) made
+
+-- where neither instructions nor reasons are asked for, the text is that of their outcomes
+pub record IsStepped (left : List ℕ → Option (List ℕ)) (options : RunOptions) (opened : Opened)
+    (path : Option (Bor (List ℕ))) (before : Device) (machine : Machine) (after : Device) : Type 0 where
+  pub made : List (Pick × Outcome)
+  pub steps : AreOf opened.course (picks_made made)
+  pub ran : IsRunOf opened.setup.program opened.setup.limits made machine
+  pub lines : List ℕ
+  pub traced : options.explains ≡ false → options.shows_code ≡ false → lines ≡ trace_text options.traces made
+  pub wrote : Wrote before after lines
+  pub recorded : IsRecorded left path (schedule_made opened.course (picks_told made))
+  pub out : IsOut opened.course (length opened.setup.program.entries) made
 
 -- the machine is that of the options and of what FILE's content is read as, run by the rules along their schedule, and
 -- the lines of its steps were written; those that tell instructions, or why transactions aborted, are any. The file

@@ -1,99 +1,75 @@
 //! Runs whose outcomes are told with their instructions: `--trace --code`, with `--why` or without.
 //!
-//! [`run_coded`] and [`run_coded_explained`] test the path of the record first, then read FILE with its schedule, and
-//! make the steps by [`stepped`]. What a step did is known by the machine before it and behind it. With reasons, the
-//! line of `elide_why` is made in memory, so that the reason can stand behind the instruction. The state below the
-//! outcomes is `schedule`'s.
+//! [`steps_coded`] and [`steps_coded_explained`] make the steps by [`stepped`]. What a step did is known by the machine
+//! before it and behind it. With reasons, the line of `elide_why` is made in memory, so that the reason can stand
+//! behind the instruction. The state below the outcomes is `schedule`'s.
 
-ghost use Rattle.std.specs.Prelude.{◌≡◌, ℕ, IfErr, IfOk, List, true};
+ghost use Rattle.std.specs.Prelude.{◌≡◌, ℕ, IfErr, IfOk, List};
 ghost use Rattle.text_out.specs.Writing.{Wrote};
 ghost use Rattle.elide_setup.specs.Refused.{IsNoCore};
-ghost use Rattle.elide_run.specs.Printed.{IsRunAsAsked};
-ghost use Rattle.elide_run.specs.Refused.{IsRefused};
+ghost use Rattle.elide_run.specs.Printed.{HasStepped};
+ghost use Rattle.elide_run.specs.Refused.{IsNoRun};
 
 use crate::explained::{StepTeller, stepped};
-use debug_command::Symbol;
 use elide_args::RunOptions;
+use elide_device::{Gathered, Progress};
 use elide_program::Paths;
-use elide_setup::{Fault, Gathered, Progress, Refusal, Setup, StepMaker, record_path};
-use elide_trace::{labels_of, scheduled_labels};
-use elide_why::{Teller, scheduled_places};
+use elide_setup::{Fault, Opened, Refusal, StepMaker};
+use elide_why::Teller;
 use ia_image::Program;
 use std::alloc::{AllocError, Global};
+use symbols::Symbol;
 use text_out::{Out, ToVec, WriteFault};
 use tm_core::{Machine, RunFault};
 use tm_hist::write_outcome;
 use tm_model::{Outcome, Pick};
 use tm_trace::{Before, Deed, write_deed, write_front, write_step};
 
-/// Makes a run's steps, and prints the line of each outcome with its instruction; writes the schedule where there is a
-/// path.
-pub fn run_coded<P: Paths, O: Out + Drop, G: Progress>(
+/// The machine behind a run's steps, of which the line of each outcome is printed with its instruction.
+pub fn steps_coded<P: Paths, O: Out + Drop, G: Progress>(
     alloc: Global,
-    options: &RunOptions<'_>,
+    opened: &Opened,
+    path: Option<&str>,
     paths: &mut P,
     page: Gathered<O>,
     progress: &mut G,
-) -> Result<(Setup, Machine, Gathered<O>), Refusal>
-    requires code { options.now.shows_code ≡ true }
-    ensures made { IfOk result (λ r. IsRunAsAsked (P.content paths.old) (P.content paths.new) options.now r.0 r.1
-        (⟦<Gathered<O> as Out>⟧.device page).contents (⟦<Gathered<O> as Out>⟧.device r.2).contents) }
-    ensures refused { IfErr result (IsRefused (P.content paths.old) (P.are_one paths.old) options.now) }
+) -> Result<(Machine, Gathered<O>), Refusal>
+    ensures refused { IfErr result (IsNoRun opened.now.setup opened.now.course path.entry) }
+    ensures made { IfOk result (λ r. HasStepped (P.content paths.new) opened.now path.entry
+        (⟦<Gathered<O> as Out>⟧.device page) r.0 (⟦<Gathered<O> as Out>⟧.device r.1)) }
 {
-    let path = record_path(options.record, options.machine.file, paths)?;
-    let (setup, course, labels) = scheduled_labels(
-        alloc,
-        &options.machine,
-        &options.schedule,
-        paths,
-    )?;
     let teller = CodeTeller {
-        program: &setup.program,
-        labels: labels.as_slice(),
+        program: &opened.setup.program,
+        labels: opened.places.labels(),
     };
-    let made = stepped(alloc, teller, &setup, &course, path, paths, page, progress);
-    drop(labels);
-    drop(course);
-    let (machine, page) = made?;
-    Ok((setup, machine, page))
+    stepped(alloc, teller, opened, path, paths, page, progress)
 }
 
-/// What [`run_coded`] does, with the reasons of the aborts, each behind its instruction. `names` says whether code
+/// What [`steps_coded`] does, with the reasons of the aborts, each behind its instruction. `names` says whether code
 /// where the subset ends is named.
-pub fn run_coded_explained<P: Paths, O: Out + Drop, G: Progress>(
+pub fn steps_coded_explained<P: Paths, O: Out + Drop, G: Progress>(
     alloc: Global,
     options: &RunOptions<'_>,
     names: bool,
+    opened: &Opened,
+    path: Option<&str>,
     paths: &mut P,
     page: Gathered<O>,
     progress: &mut G,
-) -> Result<(Setup, Machine, Gathered<O>), Refusal>
-    requires { options.now.explains ≡ true }
-    ensures made { IfOk result (λ r. IsRunAsAsked (P.content paths.old) (P.content paths.new) options.now r.0 r.1
-        (⟦<Gathered<O> as Out>⟧.device page).contents (⟦<Gathered<O> as Out>⟧.device r.2).contents) }
-    ensures refused { IfErr result (IsRefused (P.content paths.old) (P.are_one paths.old) options.now) }
+) -> Result<(Machine, Gathered<O>), Refusal>
+    ensures refused { IfErr result (IsNoRun opened.now.setup opened.now.course path.entry) }
+    ensures made { IfOk result (λ r. HasStepped (P.content paths.new) opened.now path.entry
+        (⟦<Gathered<O> as Out>⟧.device page) r.0 (⟦<Gathered<O> as Out>⟧.device r.1)) }
 {
-    let path = record_path(options.record, options.machine.file, paths)?;
-    let (setup, course, places) = scheduled_places(
-        alloc,
-        &options.machine,
-        &options.schedule,
-        paths,
-    )?;
-    let labels = labels_of(alloc, &places)?;
-    let teller = Teller::new(&setup.program, options.machine.file, &places, true);
+    let program = &opened.setup.program;
+    let teller = Teller::new(program, options.machine.file, &opened.places, true);
     let teller = ReasonTeller {
         alloc,
-        program: &setup.program,
-        labels: labels.as_slice(),
+        program,
+        labels: opened.places.labels(),
         teller: teller.naming(names),
     };
-    let made = stepped(alloc, teller, &setup, &course, path, paths, page, progress);
-    drop(labels);
-    drop(places);
-    drop(course);
-    let (machine, page) = made?;
-    Ok((setup, machine, page))
+    stepped(alloc, teller, opened, path, paths, page, progress)
 }
 
 // Tells each outcome with its instruction.

@@ -28,11 +28,10 @@ use crate::halting::{Ending, has_stopped};
 use crate::opening::machine_of;
 use arrayvec::ArrayVec;
 use elide_args::RunOptions;
+use elide_device::{Gathered, Progress};
 use elide_json::{put_back, put_front, put_outcome};
 use elide_program::Paths;
-use elide_setup::{
-    Course, Fault, Gathered, Progress, Refusal, Setup, StepMaker, record_path, scheduled,
-};
+use elide_setup::{Course, Fault, Opened, Refusal, Setup, StepMaker, record_path};
 use std::alloc::Global;
 use text_out::Out;
 use tm_core::{Machine, RunFault};
@@ -61,7 +60,8 @@ pub fn run_object<P: Paths, O: Out + Drop, G: Progress>(
         return Err(Refusal::Usage("--json"));
     }
     let path = record_path(options.record, options.machine.file, paths)?;
-    let (setup, course) = scheduled(alloc, &options.machine, &options.schedule, paths)?;
+    let opened = Opened::read(alloc, &options.machine, &options.schedule, false, paths)?;
+    let Opened { setup, course, .. } = opened;
     let page = Gathered::new(out);
     let made = stepped(
         alloc,

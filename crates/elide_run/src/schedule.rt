@@ -15,21 +15,19 @@ ghost use Rattle.elide_setup.specs.Schedules.{AreOf, picks_made, picks_told, sch
 ghost use Rattle.tm_model.specs.declared.outcome.Outcome.{Outcome};
 ghost use Rattle.tm_model.specs.declared.outcome.Pick.{Pick};
 ghost use Rattle.elide_run.specs.Object.{IsObjectPrinted};
-ghost use Rattle.elide_run.specs.Printed.{IsPrinted, IsRunAsAsked, IsTold, outcome_lines, trace_text};
+ghost use Rattle.elide_run.specs.Printed.{IsPrinted, IsRunAsAsked, IsStepped, IsTold, outcome_lines, trace_text};
 ghost use Rattle.elide_run.specs.Refused.{HasNotAll, IsNoRun, IsRefused};
 ghost use Rattle.elide_why.specs.Refused.{IsUntoldStep};
 
-use crate::coded::{run_coded, run_coded_explained};
-use crate::explained::run_explained;
+use crate::coded::{steps_coded, steps_coded_explained};
+use crate::explained::steps_explained;
 use crate::halting::{Ending, ending_of};
 use crate::object::run_object;
 use crate::opening::machine_of;
 use elide_args::RunOptions;
+use elide_device::{Gathered, Progress};
 use elide_program::Paths;
-use elide_setup::{
-    Course, Gathered, Progress, Refusal, Setup, StepMaker, record_path, scheduled, show,
-    shown_memory,
-};
+use elide_setup::{Opened, Refusal, Setup, StepMaker, record_path, show, shown_memory};
 use std::alloc::Global;
 use text_out::Out;
 use tm_core::Machine;
@@ -102,57 +100,74 @@ fn run_steps<P: Paths, O: Out + Drop, G: Progress>(
         (⟦<Gathered<O> as Out>⟧.device page).contents (⟦<Gathered<O> as Out>⟧.device r.2).contents) }
     ensures refused { IfErr result (IsRefused (P.content paths.old) (P.are_one paths.old) options.now) }
 {
-    match (options.explains, options.shows_code) {
-        (true, true) => run_coded_explained(alloc, options, names, paths, page, progress),
-        (true, false) => run_explained(alloc, options, names, paths, page, progress),
-        (false, true) => run_coded(alloc, options, paths, page, progress),
-        (false, false) => run_plainly(alloc, options, paths, page, progress),
-    }
-}
-
-// Makes a run's steps, and prints the outcomes where they are asked for.
-fn run_plainly<P: Paths, O: Out + Drop, G: Progress>(
-    alloc: Global,
-    options: &RunOptions<'_>,
-    paths: &mut P,
-    page: Gathered<O>,
-    progress: &mut G,
-) -> Result<(Setup, Machine, Gathered<O>), Refusal>
-    requires { options.now.explains ≡ false }
-    ensures made { IfOk result (λ r. IsRunAsAsked (P.content paths.old) (P.content paths.new) options.now r.0 r.1
-        (⟦<Gathered<O> as Out>⟧.device page).contents (⟦<Gathered<O> as Out>⟧.device r.2).contents) }
-    ensures refused { IfErr result (IsRefused (P.content paths.old) (P.are_one paths.old) options.now) }
-{
     let path = record_path(options.record, options.machine.file, paths)?;
-    let (setup, course) = scheduled(alloc, &options.machine, &options.schedule, paths)?;
-    let made = stepped(alloc, options, &setup, &course, path, paths, page, progress);
+    let opened = Opened::read(
+        alloc,
+        &options.machine,
+        &options.schedule,
+        options.explains || options.shows_code,
+        paths,
+    )?;
+    let made = steps_told(alloc, options, names, &opened, path, paths, page, progress);
+    let Opened {
+        setup,
+        course,
+        places,
+    } = opened;
+    drop(places);
     drop(course);
     let (machine, page) = made?;
     Ok((setup, machine, page))
 }
 
-// The machine behind a run's steps, whose outcomes are printed where they are asked for.
-fn stepped<P: Paths, O: Out + Drop, G: Progress>(
+// The machine behind a run's steps, each of which is told as it is asked for.
+fn steps_told<P: Paths, O: Out + Drop, G: Progress>(
     alloc: Global,
     options: &RunOptions<'_>,
-    setup: &Setup,
-    course: &Course,
+    names: bool,
+    opened: &Opened,
     path: Option<&str>,
     paths: &mut P,
     page: Gathered<O>,
     progress: &mut G,
 ) -> Result<(Machine, Gathered<O>), Refusal>
-    ensures refused { IfErr result (IsNoRun setup.now course.now path.entry) }
-    ensures made { IfOk result (λ r. (made : List (Pick × Outcome)) × AreOf course.now (picks_made made)
-        × IsRunOf setup.now.program setup.now.limits made r.0
-        × Wrote (⟦<Gathered<O> as Out>⟧.device page) (⟦<Gathered<O> as Out>⟧.device r.1)
-        (trace_text options.now.traces made)
-        × IsRecorded (P.content paths.new) path.entry (schedule_made course.now (picks_told made))
-        × IsOut course.now (length setup.now.program.entries) made) }
+    ensures refused { IfErr result (IsNoRun opened.now.setup opened.now.course path.entry) }
+    ensures made { IfOk result (λ r. IsStepped (P.content paths.new) options.now opened.now path.entry
+        (⟦<Gathered<O> as Out>⟧.device page) r.0 (⟦<Gathered<O> as Out>⟧.device r.1)) }
 {
-    let mut machine = machine_of(alloc, setup, course)?;
+    match (options.explains, options.shows_code) {
+        (true, true) => {
+            steps_coded_explained(alloc, options, names, opened, path, paths, page, progress)
+        }
+        (true, false) => steps_explained(
+            alloc, options, names, opened, path, paths, page, progress,
+        ),
+        (false, true) => steps_coded(alloc, opened, path, paths, page, progress),
+        (false, false) => steps_traced(alloc, options.traces, opened, path, paths, page, progress),
+    }
+}
+
+// The machine behind a run's steps, whose outcomes are printed where they are asked for.
+fn steps_traced<P: Paths, O: Out + Drop, G: Progress>(
+    alloc: Global,
+    traces: bool,
+    opened: &Opened,
+    path: Option<&str>,
+    paths: &mut P,
+    page: Gathered<O>,
+    progress: &mut G,
+) -> Result<(Machine, Gathered<O>), Refusal>
+    ensures refused { IfErr result (IsNoRun opened.now.setup opened.now.course path.entry) }
+    ensures made { IfOk result (λ r. (made : List (Pick × Outcome)) × AreOf opened.now.course (picks_made made)
+        × IsRunOf opened.now.setup.program opened.now.setup.limits made r.0
+        × Wrote (⟦<Gathered<O> as Out>⟧.device page) (⟦<Gathered<O> as Out>⟧.device r.1) (trace_text traces made)
+        × IsRecorded (P.content paths.new) path.entry (schedule_made opened.now.course (picks_told made))
+        × IsOut opened.now.course (length opened.now.setup.program.entries) made) }
+{
+    let course = &opened.course;
+    let mut machine = machine_of(alloc, &opened.setup, course)?;
     let cores = machine.cores();
-    if !options.traces {
+    if !traces {
         course.walk_recorded(alloc, cores, path, &mut machine, paths, progress)?;
         return Ok((machine, page));
     }

@@ -3,14 +3,14 @@ use Rattle.std.specs.Prelude.{◌≡◌, ℕ, ◌&&◌, if◌then◌else◌, Lis
 use Rattle.text_out.specs.Writing.{Device}
 use Rattle.debug_command.specs.declared.manner.Manner.{Manner}
 use Rattle.debug_command.specs.declared.manner.Manner.TheVariants.{Plain, Spoken}
-use Rattle.debug_command.specs.declared.symbol.Symbol.{Symbol}
+use Rattle.symbols.specs.declared.symbol.Symbol.{Symbol}
 use Rattle.tm_model.specs.declared.outcome.Pick.{Pick}
 use Rattle.tm_debug.specs.Serving.{BehindPrompt, ServesInput}
 use Rattle.tm_debug.specs.Session.{start_in}
 use Rattle.tm_hist.specs.Board.{ShownBoard as Board}
 use Rattle.elide_args.specs.declared.subcommand.SessionOptions.{SessionOptions}
 use Rattle.elide_session.specs.Opened.{IsOpened, IsPlan}
-use Rattle.elide_setup.specs.declared.terminals.Terminals.{Terminals}
+use Rattle.elide_device.specs.declared.terminals.Terminals.{Terminals}
 
 -- a session is spoken where a person types its input and reads its output
 abbrev pub manner_at : Terminals → Manner

@@ -4,7 +4,7 @@ use Rattle.text_out.specs.Writing.{Device}
 use Rattle.elide_args.specs.declared.subcommand.SessionOptions.{SessionOptions}
 use Rattle.tm_model.specs.declared.outcome.Pick.{Pick}
 use Rattle.tm_gdb.specs.Serving.{ServesInput, start}
-use Rattle.debug_command.specs.declared.symbol.Symbol.{Symbol}
+use Rattle.symbols.specs.declared.symbol.Symbol.{Symbol}
 use Rattle.elide_session.specs.Opened.{IsOpened, IsPlan, is_scheduled}
 use Rattle.tm_hist.specs.Board.{ShownBoard as Board}
 

@@ -1,6 +1,5 @@
 pub mod Opened
 pub mod Refused
-pub mod Symbols
 pub mod DebugRefused
 pub mod DebugServed
 pub mod GdbServed

@@ -1,7 +1,7 @@
 -- The board that a session begins with, and the plan that it goes along (docs/FORMATS.md, "Debugger").
 use Rattle.std.specs.Prelude.{◌≡◌, ℕ, Bool, true, false, not, ◌||◌, List, [], Option, Some, is_some, length, min}
 use Rattle.std.specs.Option.{option_copied}
-use Rattle.debug_command.specs.declared.symbol.Symbol.{Symbol}
+use Rattle.symbols.specs.declared.symbol.Symbol.{Symbol}
 use Rattle.elide_args.specs.declared.subcommand.MachineOptions.{MachineOptions}
 use Rattle.elide_args.specs.declared.subcommand.ScheduleOptions.{ScheduleOptions}
 use Rattle.elide_setup.specs.Drawing.{limit_said}
@@ -15,7 +15,7 @@ use Rattle.tm_core.specs.Theorem.{ShownMachine as Machine}
 use Rattle.elide_setup.specs.declared.machine.Setup.{Setup}
 use Rattle.elide_setup.specs.declared.plan.Plan.{Plan}
 use Rattle.elide_setup.specs.declared.plan.Plan.TheVariants as plan
-use Rattle.elide_session.specs.Symbols.{AreSymbolsOf}
+use Rattle.elide_places.specs.FileSymbols.{AreSymbolsOf}
 use Rattle.tm_hist.specs.Board.{IsNew, ShownBoard as Board}
 use Rattle.tm_model.specs.declared.outcome.Outcome.{Outcome}
 use Rattle.tm_model.specs.declared.outcome.Pick.{Pick}

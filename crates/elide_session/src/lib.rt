@@ -20,7 +20,6 @@
 mod debugger;
 mod gdb_server;
 mod opening;
-mod symbols;
 
 pub use debugger::debug;
 pub use gdb_server::gdb;

@@ -9,7 +9,7 @@ ghost use Rattle.std.specs.Prelude.{◌≡◌, ℕ, IfErr, IfOk, IfSome, List, O
 ghost use Rattle.elide_session.specs.Opened.{AreDrawn, IsLimitedOut, IsOpened, IsPlan};
 ghost use Rattle.elide_session.specs.Opened.{is_scheduled, limited_plan, says_draw};
 ghost use Rattle.elide_session.specs.Refused.{IsEndBy, IsNotOpened, IsUndrawn};
-ghost use Rattle.elide_session.specs.Symbols.{AreSymbolsOf};
+ghost use Rattle.elide_places.specs.FileSymbols.{AreSymbolsOf};
 ghost use Rattle.elide_setup.specs.Drawing.{AreUnder};
 ghost use Rattle.elide_setup.specs.Faults.{fault_number};
 ghost use Rattle.elide_setup.specs.Refused.{IsMisplanned, plan_path};
@@ -19,13 +19,12 @@ ghost use Rattle.tm_debug.specs.Faults.{session_code};
 ghost use Rattle.tm_model.specs.declared.outcome.Outcome.{Outcome};
 ghost use Rattle.tm_model.specs.declared.outcome.Pick.{Pick};
 
-use crate::symbols::{labels_of, symbols_of};
 use debug_command::Names;
 use elide_args::{MachineOptions, ScheduleOptions};
+use elide_device::Silent;
+use elide_places::{Places, symbols_of};
 use elide_program::{Paths, ProgramFile, Settings, read_file};
-use elide_setup::{
-    Course, Drawn, Fault, Plan, Refusal, Setup, Silent, new_board, new_machine, planned,
-};
+use elide_setup::{Course, Drawn, Fault, Plan, Refusal, Setup, new_board, new_machine, planned};
 use std::alloc::{AllocError, Global};
 use tm_debug::SessionFault;
 use tm_hist::Board;
@@ -147,7 +146,7 @@ fn names_of(
 {
     let symbols = symbols_of(alloc, file)?;
     let labels = if wants_labels {
-        labels_of(alloc, text)?
+        Places::of_file(alloc, file, text)?.into_labels()
     } else {
         Vec::new(alloc)
     };

@@ -1,8 +1,8 @@
 -- What a file holds that a schedule is recorded in.
-use Rattle.std.proofs.Common.{◌≡◌, ◌∙◌, ℕ, Bool, List, ◌++◌, Option, None, Some, ap, refl, subst, sym}
+use Rattle.std.proofs.Common.{◌≡◌, ◌∙◌, ℕ, Bool, List, ◌++◌, Option, None, Some, Ok, Err, ap, refl, subst, sym}
 use Rattle.std.specs.Borrow.{Bor}
 use Rattle.std.specs.Io.KnownBytes.{Appends, Keeps}
-use Rattle.std.specs.Prelude.{IfSome, is_some}
+use Rattle.std.specs.Prelude.{IfSome, OnOk, Result, is_some}
 use Rattle.tm_model.specs.declared.outcome.Outcome.{Outcome}
 use Rattle.tm_model.specs.declared.outcome.Pick.{Pick}
 use Rattle.elide_setup.specs.Recorded.{IsRecorded}
@@ -22,6 +22,11 @@ passed_on (Some xs) None ended last text h k e = absurd h
 passed_on (Some xs) (Some ys) None last text h k e = absurd k
 passed_on (Some xs) (Some ys) (Some zs) None text h k e = absurd e
 passed_on (Some xs) (Some ys) (Some zs) (Some ws) text h k e = e ∙ k ∙ ap (λ l. l ++ text) h
+
+-- what holds stays true where what is written behind it may fail
+pub kept_on_ok : {T E P : Type 0} (r : Result T E) → P → OnOk r P
+kept_on_ok (Ok done) h = h
+kept_on_ok (Err refused) h = tt
 
 -- a text behind what was kept, and what is kept behind a text
 pub kept_then : (a b c : Option (List ℕ)) (text : List ℕ) → Keeps a b → Appends b c text → Appends a c text

@@ -1,7 +1,6 @@
 pub mod Drawing
 pub mod Events
 pub mod Faults
-pub mod Gathering
 pub mod Made
 pub mod Misuse
 pub mod Owing

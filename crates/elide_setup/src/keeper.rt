@@ -5,7 +5,7 @@
 //! is in `recording`.
 
 ghost use Rattle.std.specs.Prelude.{◌≡◌, ◌++◌, ◌∷◌, [], ⊤, IfErr, List, OnOk};
-ghost use Rattle.tm_model.specs.Runs.{event_told, pick_of};
+ghost use Rattle.tm_model.specs.Runs.{pick_of};
 ghost use Rattle.tm_model.specs.declared.outcome.Outcome.{Outcome};
 ghost use Rattle.tm_model.specs.declared.outcome.Pick.{Pick};
 ghost use Rattle.elide_setup.specs.Schedules.{picks_told};
@@ -16,7 +16,8 @@ ghost use Rattle.tm_core.specs.declared.fault.RunFault.TheVariants as run;
 
 use crate::fault::{Fault, Refusal};
 use tm_core::RunFault;
-use tm_model::{Event, Outcome, Pick};
+use tm_hist::event_of;
+use tm_model::{Outcome, Pick};
 
 /// Keeps the steps that are drawn, or not. A type for each way, so that a walk that keeps none pays nothing for it.
 pub trait Keeper {
@@ -66,16 +67,6 @@ impl Keeper for Vec<Pick> {
 pub fn pick_told(pick: Pick, outcome: Outcome) -> Pick
     ensures { result ≡ pick_of (pick.core, outcome) }
 {
-    let event = event_told(outcome);
+    let event = event_of(outcome);
     Pick { event, ..pick }
-}
-
-// The event that an outcome tells of.
-fn event_told(outcome: Outcome) -> Option<Event>
-    ensures { result ≡ event_told outcome }
-{
-    match outcome {
-        Outcome::AbortedBy(interference, _status) => Some(Event::Abort(interference)),
-        _ => None,
-    }
 }

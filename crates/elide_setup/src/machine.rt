@@ -1,9 +1,9 @@
-//! What the commands that make a machine begin with: from their options to a machine or a board before its first step.
+//! The program of a file as the options say, and from it to a machine or a board before its first step.
 //!
-//! [`scheduled`] goes in the order in which faults are told: the machine's options, the schedule's, FILE, the program
-//! in it, and then [`planned`]: the entries, what is printed of memory, the schedule's file, the loading.
-//! [`new_machine`] and [`new_board`] come last, and test the limits of transactions; only the latter tests that what is
-//! printed is in memory. No step is made here: that is `walk`.
+//! [`planned`] goes in the order in which faults are told: the entries, what is printed of memory, the schedule's file,
+//! the loading. What comes before, from the options to the file, is `opened`'s. [`new_machine`] and [`new_board`] come
+//! last, and test the limits of transactions; only the latter tests that what is printed is in memory. No step is made
+//! here: that is `walk`.
 
 ghost use Rattle.std.specs.Prelude.{◌≡◌, ◌≤◌, ℕ, [], IfErr, IfOk, List, length};
 ghost use Rattle.tm_model.specs.declared.outcome.Outcome.{Outcome};
@@ -15,17 +15,16 @@ ghost use Rattle.elide_program.specs.ProgramFile.{TellsLoad};
 ghost use Rattle.elide_program.specs.declared.fault.ProgramRefusal.{ProgramRefusal};
 ghost use Rattle.elide_program.specs.declared.file.ProgramFile.{ProgramFile};
 ghost use Rattle.elide_setup.specs.Faults.{refusal_of};
-ghost use Rattle.elide_setup.specs.Refused.{IsNoBoard, IsNoMachine, IsNotLoaded, IsNotPlanned, IsNotScheduled};
-ghost use Rattle.elide_setup.specs.Rounds.{IsAskedOut, IsOut, IsPlannedOut};
+ghost use Rattle.elide_setup.specs.Refused.{IsNoBoard, IsNoMachine, IsNotLoaded, IsNotPlanned};
+ghost use Rattle.elide_setup.specs.Rounds.{IsOut, IsPlannedOut};
 ghost use Rattle.elide_setup.specs.Runs.{IsRunOf};
-ghost use Rattle.elide_setup.specs.Schedules.{AreAsked, AreOf, ArePlanned, form_asked, form_of, plan_form};
-ghost use Rattle.elide_setup.specs.Setup.{IsAsked, IsSetup};
+ghost use Rattle.elide_setup.specs.Schedules.{AreOf, ArePlanned, form_of, plan_form};
+ghost use Rattle.elide_setup.specs.Setup.{IsSetup};
 
 use crate::fault::{Fault, Refusal};
 use crate::plan::{Course, Plan};
 use crate::shown::shown_memory;
-use elide_args::{MachineOptions, ScheduleOptions};
-use elide_program::{MemoryParts, Paths, ProgramFile, Settings, read_file};
+use elide_program::{MemoryParts, Paths, ProgramFile, Settings};
 use ia_image::Program;
 use std::alloc::Global;
 use tm_core::{Limits, Machine};
@@ -91,28 +90,6 @@ fn limits_of(settings: &Settings<'_>) -> Limits
     }
 }
 
-/// Reads FILE and loads it by the options, with the command's schedule, which is read before the program is loaded.
-pub fn scheduled<P: Paths>(
-    alloc: Global,
-    machine: &MachineOptions<'_>,
-    schedule: &ScheduleOptions<'_>,
-    paths: &mut P,
-) -> Result<(Setup, Course), Refusal>
-    ensures setup { IfOk result (λ r. IsAsked (P.content paths.old machine.now.file.now) machine.now r.0) }
-    ensures course { IfOk result (λ r. (picks : List Pick) → AreOf r.1 picks →
-        AreAsked (P.content paths.old) schedule.now picks) }
-    ensures listed { IfOk result (λ r. form_of r.1 ≡ form_asked schedule.now) }
-    ensures out { IfOk result (λ r. (cores : ℕ) (steps : List (Pick × Outcome)) → IsOut r.1 cores steps →
-        IsAskedOut schedule.now cores steps) }
-    ensures none { IfErr result (IsNotScheduled (P.content paths.old) machine.now schedule.now) }
-{
-    let settings = Settings::read(machine)?;
-    let plan = Plan::read(alloc, schedule)?;
-    let text = read_file(machine.file, paths)?;
-    let file = ProgramFile::read(alloc, text.as_slice())?;
-    planned(alloc, &settings, plan, &file, paths)
-}
-
 /// The program of a file that was read, and its schedule.
 pub fn planned<P: Paths>(
     alloc: Global,
@@ -142,7 +119,16 @@ pub fn new_machine(alloc: Global, setup: &Setup) -> Result<Machine, Refusal>
     ensures cores { IfOk result (λ machine. length machine.views ≡ length setup.now.program.entries) }
     ensures none { IfErr result (IsNoMachine setup.now.limits) }
 {
-    match Machine::new(alloc, &setup.program, setup.limits) {
+    machine_like(alloc, &setup.program, setup.limits)
+}
+
+/// A machine of a program before its first step, under these limits: of those of a board, too.
+pub fn machine_like(alloc: Global, program: &Program, limits: Limits) -> Result<Machine, Refusal>
+    ensures made { IfOk result (IsRunOf program.now limits []) }
+    ensures cores { IfOk result (λ machine. length machine.views ≡ length program.now.entries) }
+    ensures none { IfErr result (IsNoMachine limits) }
+{
+    match Machine::new(alloc, program, limits) {
         Ok(machine) => Ok(machine),
         Err(fault) => Err(Refusal::Fault(Fault::Machine(fault))),
     }

@@ -10,7 +10,7 @@ ghost use Rattle.elide_setup.specs.Recorded.{IsRecorded};
 ghost use Rattle.elide_setup.specs.Refused.{AreOne, IsOverProgram, IsUnrecorded};
 
 use crate::fault::{Fault, Refusal};
-use crate::gathered::Gathered;
+use elide_device::Gathered;
 use elide_program::{Paths, Text};
 use text_out::{Out, WriteFault};
 use tm_model::Pick;

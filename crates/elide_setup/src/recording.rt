@@ -20,11 +20,10 @@ ghost use Rattle.elide_setup.specs.declared.fault.Fault.TheVariants as fault;
 ghost use Rattle.elide_setup.specs.declared.fault.Refusal.TheVariants as refusal;
 
 use crate::fault::{Fault, Refusal};
-use crate::gathered::Gathered;
 use crate::keeper::{Keeper, Unkept, pick_told};
 use crate::plan::Drawn;
-use crate::progress::Progress;
 use crate::walk::{StepMaker, walk_drawn};
+use elide_device::{Gathered, Progress};
 use elide_program::{Paths, Text};
 use text_out::{Out, WriteFault};
 use tm_model::{Outcome, Pick};

@@ -29,10 +29,10 @@ ghost use Rattle.elide_setup.specs.Walks.{Leads};
 use crate::fault::{Fault, Refusal};
 use crate::keeper::{Keeper, Unkept};
 use crate::plan::{Course, Drawn};
-use crate::progress::Progress;
 use crate::recorded::{record, record_drawn};
 use crate::recording::walk_written;
 use crate::side_by_side::{is_lone, lone_chunks};
+use elide_device::Progress;
 use elide_program::Paths;
 use std::alloc::Global;
 use tm_core::{Machine, NoSuchCore, RunFault};
@@ -144,10 +144,7 @@ fn board_step(board: &mut Board, pick: Pick) -> Result<Outcome, Refusal>
     ensures under { IfOk result (λ outcome. IsOwedNext pick.event board.old pick.core outcome) }
     ensures refused { IfErr result (IsNoStep board.old pick) }
 {
-    match pick.event {
-        None => board_told(board.step(pick.core)),
-        Some(event) => board_told(board.step_under(pick.core, event)),
-    }
+    board_told(board.step_by(pick))
 }
 
 // A board's answer, with the fault of a step that was not made.

@@ -1,4 +1,3 @@
-mod Recording
 mod Refusing
 mod Steps
 pub mod RowsMore

@@ -23,8 +23,9 @@ ghost use Rattle.elide_stats.specs.Refused.{AreOfOptions, IsNoCount, IsNotCounte
 use crate::counting::Counting;
 use crate::told::{CountedRun, tell_counting};
 use elide_args::StatsOptions;
+use elide_device::Progress;
 use elide_program::{Paths, ProgramFile, Settings, read_file};
-use elide_setup::{Course, Plan, Progress, Refusal, Setup, new_machine, planned, record_path};
+use elide_setup::{Course, Plan, Refusal, Setup, new_machine, planned, record_path};
 use std::alloc::Global;
 use text_out::Out;
 use tm_stats::AbortCause;

@@ -21,8 +21,9 @@ ghost use Rattle.elide_stats.specs.Refused.{IsUncounted, IsUncountedStep};
 
 use crate::asked::Asked;
 use crate::hits::{CoreBytes, Hits};
+use elide_device::Progress;
 use elide_program::Paths;
-use elide_setup::{Course, Fault, Progress, Refusal, StepMaker};
+use elide_setup::{Course, Fault, Refusal, StepMaker};
 use std::alloc::{AllocError, Global};
 use tm_core::{Machine, RunFault};
 use tm_hist::Board;
@@ -30,7 +31,7 @@ use tm_model::{Outcome, Pick};
 use tm_stats::{AbortCause, Conflicts, RunCounts};
 
 /// After how many steps of a history it is told how far the counting is.
-const PORTION: usize = 65536;
+const PORTION: u64 = 65536;
 
 /// A machine, with the counts of the steps that it made.
 #[derive(Drop)]
@@ -111,14 +112,13 @@ impl Counting {
         ensures ran { IfOk result (λ _. (made : List (Pick × Outcome)) × (picks_made made ≡ picks_of board.now.history)
             × GoOn ⟦<AbortCause as PartialEq>⟧.eq self.old made self.new) }
     {
-        // By this it is known that the machine has the core of each step: only memory can be wanting below.
-        board.is_run();
-        let history = board.history();
-        for index in 0..history.len() {
+        let steps = board.made();
+        for index in 0..steps {
             if index % PORTION == 0 {
-                progress.tell(index as u64, history.len() as u64, "steps");
+                progress.tell(index, steps, "steps");
             }
-            self.make_step(history.pick_at(index).unwrap())?;
+            // The machine has the core of each step: only memory can be wanting.
+            self.make_step(board.pick_at(index as usize).unwrap())?;
         }
         Ok(())
     }

@@ -134,7 +134,7 @@ impl Report {
         alloc: Global,
         counts: &RunCounts,
         conflicts: &Conflicts,
-        labels: &Labels<'_>,
+        labels: &Labels,
     ) -> Result<Report, AllocError>
         ensures { IfOk result (IsReportOf counts.now conflicts.now) }
     {
@@ -165,7 +165,7 @@ impl Report {
         alloc: Global,
         counts: &RunCounts,
         conflicts: &Conflicts,
-        labels: &Labels<'_>,
+        labels: &Labels,
     ) -> Result<(), AllocError>
         requires { AreStepsOf counts.now self.old.steps }
         ensures { IfOk result (λ _. IsReportOf counts.now conflicts.now self.new) }
@@ -246,7 +246,7 @@ fn hex(alloc: Global, address: u32) -> Result<String, AllocError> {
 fn places_of(
     alloc: Global,
     counts: &RunCounts,
-    labels: &Labels<'_>,
+    labels: &Labels,
 ) -> Result<Vec<PlaceRow>, AllocError>
     ensures { IfOk result (λ rows. AllZip IsPlaceRow counts.now.places.entries rows.items) }
 {
@@ -262,7 +262,7 @@ fn place_row(
     alloc: Global,
     place: u32,
     row: &PlaceCounts,
-    labels: &Labels<'_>,
+    labels: &Labels,
 ) -> Result<PlaceRow, AllocError>
     ensures { IfOk result (IsPlaceRow (place, row.now)) }
 {
@@ -336,7 +336,7 @@ fn size_row(alloc: Global, spread: Spread, of: &'static str) -> Result<SizeRow, 
 fn lines_of(
     alloc: Global,
     conflicts: &Conflicts,
-    labels: &Labels<'_>,
+    labels: &Labels,
 ) -> Result<Vec<LineRow>, AllocError>
     ensures { IfOk result (λ rows. AllZip IsLineRow conflicts.now.lines.entries rows.items) }
 {
@@ -348,12 +348,7 @@ fn lines_of(
     Ok(rows)
 }
 
-fn line_row(
-    alloc: Global,
-    line: u32,
-    count: u64,
-    labels: &Labels<'_>,
-) -> Result<LineRow, AllocError>
+fn line_row(alloc: Global, line: u32, count: u64, labels: &Labels) -> Result<LineRow, AllocError>
     ensures { IfOk result (IsLineRow (line, count)) }
 {
     Ok(LineRow {
@@ -363,11 +358,7 @@ fn line_row(
     })
 }
 
-fn hits_of(
-    alloc: Global,
-    conflicts: &Conflicts,
-    labels: &Labels<'_>,
-) -> Result<Vec<HitRow>, AllocError>
+fn hits_of(alloc: Global, conflicts: &Conflicts, labels: &Labels) -> Result<Vec<HitRow>, AllocError>
     ensures { IfOk result (λ rows. AllZip IsHitRow conflicts.now.pairs.entries rows.items) }
 {
     let mut rows = Vec::new(alloc);
@@ -382,7 +373,7 @@ fn hit_row(
     alloc: Global,
     conflict: &Conflict,
     count: u64,
-    labels: &Labels<'_>,
+    labels: &Labels,
 ) -> Result<HitRow, AllocError>
     ensures { IfOk result (IsHitRow (conflict.now, count)) }
 {

@@ -4,9 +4,9 @@
 //! [`tell_counts`] makes the steps of a board again before that, on a machine of its own, since a board's history has
 //! outcomes and no causes. Want of memory for counts and rows is that of a run.
 
-ghost use Rattle.std.specs.Prelude.{[], IfErr, IfOk};
+ghost use Rattle.std.specs.Prelude.{[], IfErr};
 ghost use Rattle.elide_setup.specs.Runs.{IsRunOf};
-ghost use Rattle.elide_setup.specs.Refused.{IsNoMachine, IsUntold};
+ghost use Rattle.elide_setup.specs.Refused.{IsUntold};
 ghost use Rattle.elide_stats.specs.Counted.{HasCounted};
 ghost use Rattle.elide_stats.specs.Refused.{AreUntold};
 ghost use Rattle.tm_stats.specs.Counts.{AreCounts};
@@ -16,12 +16,12 @@ use crate::counting::{Counting, no_memory};
 use crate::json::json_line;
 use crate::labels::Labels;
 use crate::report::Report;
+use elide_device::{Gathered, Lent, Progress};
 use elide_places::Naming;
 use elide_program::ProgramFile;
-use elide_setup::{Course, Fault, Gathered, Lent, Progress, Refusal, Setup};
+use elide_setup::{Course, Refusal, Setup, machine_like};
 use std::alloc::Global;
 use text_out::Out;
-use tm_core::Machine;
 use tm_hist::Board;
 use tm_stats::AbortCause;
 
@@ -63,7 +63,7 @@ fn tell_labelled<O: Out>(
     alloc: Global,
     _run: CountedRun<'_>,
     counting: &Counting,
-    labels: &Labels<'_>,
+    labels: &Labels,
     is_json: bool,
     out: &mut O,
 ) -> Result<(), Refusal>
@@ -108,17 +108,6 @@ fn put_json<O: Out>(alloc: Global, report: &Report, out: &mut O) -> Result<(), R
     }
 }
 
-// The machine of a board's program, before its first step.
-fn machine_of(alloc: Global, board: &Board) -> Result<Machine, Refusal>
-    ensures made { IfOk result (IsRunOf board.now.program board.now.limits []) }
-    ensures none { IfErr result (IsNoMachine board.now.limits) }
-{
-    match Machine::new(alloc, board.program(), board.limits()) {
-        Ok(machine) => Ok(machine),
-        Err(fault) => Err(Refusal::Fault(Fault::Machine(fault))),
-    }
-}
-
 /// Makes the steps of a board again on a machine of their own, and prints what its transactions came to. The file is
 /// that of the board's program.
 pub fn tell_counts<O: Out, G: Progress>(
@@ -131,7 +120,7 @@ pub fn tell_counts<O: Out, G: Progress>(
 ) -> Result<(), Refusal>
     ensures { IfErr result (AreUntold board.now.limits) }
 {
-    let machine = machine_of(alloc, board)?;
+    let machine = machine_like(alloc, board.program(), board.limits())?;
     let mut counting = Counting::new(alloc, machine)?;
     let told = tell_made(alloc, board, &mut counting, file, is_json, out, progress);
     // Dropped by a call: what a machine and its counts own is much.

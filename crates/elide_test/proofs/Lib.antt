@@ -1,4 +1,3 @@
 pub mod Objects
 pub mod TapTexts
-pub mod Texts
 pub mod Zips

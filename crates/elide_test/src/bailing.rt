@@ -4,9 +4,8 @@
 //! is printed. The refusal that is given back is told by the command, too; where the device fails, that is told
 //! instead. Faults have their numbers here, and no [`Stop`] is made.
 
-ghost use Rattle.std.specs.Prelude.{◌≡◌, ◌+◌, ◌≤◌, ◌++◌, ℕ, IfOk, List, OnOk};
+ghost use Rattle.std.specs.Prelude.{◌++◌, ℕ, IfOk, List, OnOk};
 ghost use Rattle.std.specs.Io.KnownBytes.{Appends};
-ghost use Rattle.arrayvec.specs.ArrayVec.{array_vec_len};
 ghost use Rattle.text_out.specs.Writing.{Wrote};
 ghost use Rattle.elide_setup.specs.Told.{fault_back, fault_front};
 ghost use Rattle.elide_test.specs.Tap.{bail_line, bail_text};
@@ -14,19 +13,15 @@ ghost use Rattle.elide_test.specs.Tap.{bail_line, bail_text};
 use crate::report::FileReport;
 use crate::stop::Stop;
 use crate::tap::{tell_text, tell_until};
-use arrayvec::{ArrayString, ArrayVec};
+use arrayvec::ArrayVec;
+use elide_device::Gathered;
 use elide_program::ProgramFault;
-use elide_setup::{Fault, Gathered, Refusal, push_back, push_front};
+use elide_setup::{Fault, Refusal, push_back, push_front, push_name};
 use ia_image::LoadFault;
-use std::fmt::Write;
-use text_out::page::push;
 use text_out::{Out, WriteFault};
 
 // The line that tells a fault.
 type Line = ArrayVec<u8, 160>;
-
-// A fault's name. The longest has some 20 bytes.
-type Name = ArrayString<64>;
 
 impl From<Stop> for Refusal {
     fn from(stop: Stop) -> Refusal {
@@ -104,15 +99,4 @@ fn tell_fault<O: Out>(fault: Fault, out: &mut O) -> Result<(), WriteFault>
     push_back(&mut line, fault);
     out.put(line.as_slice())?;
     Ok(())
-}
-
-fn push_name(line: &mut Line, fault: Fault)
-    requires { array_vec_len line.old + 64 ≤ 160 }
-    ensures text { (word : List ℕ) × (line.new.items ≡ line.old.items ++ word) }
-    ensures len { array_vec_len line.new ≤ array_vec_len line.old + 64 }
-{
-    let mut name = Name::new();
-    // A name that is longer is cut short.
-    let _ = write!(name, "{fault}");
-    push(line, name.as_str().as_bytes());
 }

@@ -15,7 +15,8 @@ use crate::bailing::refused;
 use crate::object::tell_object;
 use crate::report::{Answer, FileReport, Trials};
 use crate::tap::tell_files;
-use elide_setup::{Gathered, Refusal};
+use elide_device::Gathered;
+use elide_setup::Refusal;
 use std::alloc::Global;
 use text_out::Out;
 

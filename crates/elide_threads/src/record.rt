@@ -48,19 +48,7 @@ impl<'a> Record<'a> {
         if self.path.is_none() {
             return Ok(());
         }
-        fill(&mut self.picks, board)?;
+        board.history().fill(&mut self.picks)?;
         record(self.path, self.picks.as_slice(), paths)
     }
-}
-
-// Puts the pick of each step of a board into a list that has none: an event that aborted nothing is left out.
-fn fill(picks: &mut Vec<Pick>, board: &Board) -> Result<(), AllocError>
-    requires { picks.old.items ≡ [] }
-    ensures { OnOk result (picks.new.items ≡ picks_of board.now.history) }
-{
-    let history = board.history();
-    for index in 0..history.len() {
-        picks.push(history.pick_at(index).unwrap())?;
-    }
-    Ok(())
 }

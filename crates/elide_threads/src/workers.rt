@@ -35,15 +35,13 @@ ghost use Rattle.tm_work.specs.Seats.{new_part};
 ghost use Rattle.tm_work.specs.Workers.{IsReport};
 
 use crate::record::Record;
-use crate::watch::Told;
+use crate::watch::SharedProgress;
 use elide_args::ThreadsOptions;
+use elide_device::{Gathered, Progress};
 use elide_json::put_threads;
 use elide_places::Places;
 use elide_program::{Paths, ProgramFile, ProgramRefusal, Settings, number_of, read_file};
-use elide_setup::{
-    Fault, Gathered, Progress, Refusal, Setup, events_of, new_board, record_path, show,
-    shown_memory,
-};
+use elide_setup::{Fault, Refusal, Setup, events_of, new_board, record_path, show, shown_memory};
 use elide_stats::tell_counts;
 use elide_why::{NamedPlaces, tell_history};
 use std::alloc::Global;
@@ -169,7 +167,7 @@ fn threads_of_text<
     let alloc = rt.alloc();
     let file = ProgramFile::read(alloc, text)?;
     let setup = Setup::of_file(alloc, settings, &file)?;
-    let places = places_of(alloc, options, work.names, text)?;
+    let places = places_of(alloc, options, work.names, &file, text)?;
     let end = run_and_tell(
         rt,
         options,
@@ -275,18 +273,19 @@ fn tell_run<O: Out + Drop, G: Progress>(
     Ok(page.finish()?)
 }
 
-// The places of the source, where the reasons of the aborts are asked for.
+// The places of the program, where the reasons of the aborts are asked for.
 fn places_of(
     alloc: Global,
     options: &ThreadsOptions<'_>,
     names: bool,
+    file: &ProgramFile<'_>,
     text: &[u8],
 ) -> Result<Option<NamedPlaces>, Refusal>
     ensures places { IfOk result (λ places. options.now.explains ≡ false → places ≡ None) }
     ensures want { IfErr result (λ why. why ≡ want) }
 {
     if options.explains {
-        let places = Places::of_text(alloc, text)?;
+        let places = Places::of_file(alloc, file, text)?;
         Ok(Some(NamedPlaces { places, names }))
     } else {
         Ok(None)
@@ -385,7 +384,7 @@ fn worked<R: Threads + Wait + Sync + AllocGlobal, G: Progress + Send>(
     let Ok(budgets) = vec![in alloc; work.budget; usize::from(board.cores())] else {
         return Err(Refusal::Fault(Fault::NoWorkers));
     };
-    let told = Told::new(progress, board.limit());
+    let told = SharedProgress::new(progress, board.limit());
     let report = run_steadily(
         rt,
         alloc,

@@ -10,8 +10,8 @@ ghost use Rattle.elide_args.specs.Asked.{texts_of};
 ghost use Rattle.elide_trial.specs.Came.{CameTo};
 
 use crate::ending::CommandEnd;
-use elide_command::{Surroundings, command};
-use elide_setup::Silent;
+use elide_command::command;
+use elide_device::{Silent, Surroundings};
 use elide_test::{Ended, FolderPaths, SharedPaths};
 use std::alloc::{AllocError, Global};
 use std::sync::Wait;

@@ -4,7 +4,8 @@ use Rattle.std.specs.Fmt.{decimal}
 use Rattle.ia_insn.specs.declared.op.Insn.{Insn}
 use Rattle.text_out.specs.Number.{eight_digits}
 use Rattle.text_out.specs.TextLine.{line_end}
-use Rattle.elide_why.specs.Lines.{begun_text, insn_words}
+use Rattle.elide_why.specs.Lines.{insn_words}
+use Rattle.tm_why.specs.Lines.{begun_words}
 use Rattle.elide_why.specs.declared.words.Words.{Words}
 
 abbrev pub space_before : Option Insn → List ℕ
@@ -18,7 +19,7 @@ interference_front core word status words =
     ++ codes " at " ++ words.place.items ++ space_before words.insn
 
 unfoldable pub interference_back : Option ℕ → List ℕ
-interference_back begun = begun_text begun ++ line_end
+interference_back begun = begun_words begun ++ line_end
 
 -- the outcome line, which goes on with the place and text of the instruction that was next, and with when the
 -- transaction began

@@ -8,6 +8,7 @@ use Rattle.text_out.specs.TextLine.{line_end}
 use Rattle.tm_hist.specs.Lines.{stop_word}
 use Rattle.tm_sets.specs.declared.interface.Kind.{Kind}
 use Rattle.tm_sets.specs.declared.interface.Kind.TheVariants.{Read, Write}
+use Rattle.tm_why.specs.Lines.{begun_words, use_word}
 use Rattle.tm_why.specs.declared.reason.Reason.{Reason}
 use Rattle.tm_why.specs.declared.row.StandingHit.{StandingHit}
 use Rattle.tm_model.specs.declared.explain.AbortReason.{AbortReason}
@@ -23,11 +24,6 @@ line_text line words = codes "line " ++ hex_digits line ++ symbols_text words.sy
 abbrev pub insn_words : Option Insn → ℕ → List ℕ
 insn_words None at = []
 insn_words (Some insn) at = insn_text insn at
-
--- how a step of another core hit
-abbrev pub use_word : Kind → List ℕ
-use_word Read = codes ": read at step "
-use_word Write = codes ": written at step "
 
 abbrev pub hit_words : Option StandingHit → Words → List ℕ
 hit_words None words = []
@@ -63,17 +59,13 @@ begun_told cause.Breakpoint begun = None
 begun_told (cause.Stop stop) begun = None
 begun_told cause.NotAllowed begun = None
 
-abbrev pub begun_text : Option ℕ → List ℕ
-begun_text None = []
-begun_text (Some step) = codes "; begun at step " ++ decimal step
-
 -- the outcome line of an abort, which goes on with its reason, and with the instruction that the reason tells
 unfoldable pub abort_front : ℕ → ℕ → Reason → Words → List ℕ
 abort_front core status why words =
     decimal core ++ codes " aborted " ++ eight_digits status ++ codes " " ++ cause_text why.cause why words
 
 unfoldable pub abort_back : Reason → List ℕ
-abort_back why = begun_text (begun_told why.cause why.transaction.begun) ++ line_end
+abort_back why = begun_words (begun_told why.cause why.transaction.begun) ++ line_end
 
 abbrev pub abort_line : ℕ → ℕ → Reason → Words → List ℕ
 abort_line core status why words =

@@ -10,7 +10,6 @@ ghost use Rattle.text_out.specs.Writing.{Writes};
 ghost use Rattle.tm_hist.specs.Lines.{interference_word};
 ghost use Rattle.elide_why.specs.Interference.{interference_back, interference_front, interference_line, space_before};
 
-use crate::lines::push_begun;
 use crate::parts::write_parts;
 use crate::words::Words;
 use ia_insn::Insn;
@@ -18,6 +17,7 @@ use text_out::page::{Page, push, push_decimal, push_eight};
 use text_out::{Out, WriteFault};
 use tm_hist::interference_text;
 use tm_model::Interference;
+use tm_why::push_begun;
 
 /// Writes the outcome line of an abort from outside of the program with this status: what came, the place and text of
 /// the instruction that was next, and when the transaction began.

@@ -23,7 +23,7 @@ pub use history::tell_history;
 pub use interference::write_interference;
 pub use lines::write_abort;
 pub use outside::Outside;
-pub use placed::{NamedPlaces, scheduled_places};
+pub use placed::NamedPlaces;
 pub use subset::write_stop;
 pub use teller::Teller;
 pub use words::{PlaceText, Words};

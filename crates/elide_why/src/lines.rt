@@ -4,11 +4,11 @@
 //! in the order of the line. What is told depends on the cause: of a conflict who hit, of want of room the line, of a
 //! stop where the subset ends the code there. The reason is found by `tm_why`, and its words by `words`.
 
-ghost use Rattle.std.specs.Prelude.{◌≡◌, ◌+◌, ◌≤◌, ◌++◌, length};
+ghost use Rattle.std.specs.Prelude.{◌≡◌, ◌+◌, ◌≤◌, ◌++◌};
 ghost use Rattle.arrayvec.specs.ArrayVec.{array_vec_len};
 ghost use Rattle.text_out.specs.Writing.{Writes};
-ghost use Rattle.elide_why.specs.Lines.{abort_back, abort_front, abort_line, begun_text, begun_told, cause_text};
-ghost use Rattle.elide_why.specs.Lines.{hit_words, line_text, no_room_text, outside_words, use_word};
+ghost use Rattle.elide_why.specs.Lines.{abort_back, abort_front, abort_line, begun_told, cause_text};
+ghost use Rattle.elide_why.specs.Lines.{hit_words, line_text, no_room_text, outside_words};
 
 use crate::parts::write_parts;
 use crate::subset::{push_outside, push_symbols};
@@ -18,7 +18,7 @@ use text_out::{Out, WriteFault};
 use tm_hist::stop_text;
 use tm_model::AbortReason;
 use tm_sets::Kind;
-use tm_why::{Reason, StandingHit};
+use tm_why::{Reason, StandingHit, push_begun, use_word};
 
 /// Writes the outcome line of an abort with this status, and its reason behind it.
 ///
@@ -77,18 +77,6 @@ fn begun_told(cause: AbortReason, begun: Option<u64>) -> Option<u64>
     }
 }
 
-/// Adds when a transaction began, where that is told.
-pub fn push_begun(page: &mut Page, begun: Option<u64>)
-    requires { array_vec_len page.old ≡ 0 }
-    ensures text { page.new.items ≡ page.old.items ++ begun_text begun }
-    ensures len { array_vec_len page.new ≤ 60 }
-{
-    if let Some(begun) = begun {
-        push(page, b"; begun at step ");
-        push_decimal(page, begun);
-    }
-}
-
 fn push_cause(page: &mut Page, reason: &Reason, words: &Words<'_>)
     requires { array_vec_len page.old + 1800 ≤ 4096 }
     ensures { page.new.items ≡ page.old.items ++ cause_text reason.now.cause reason.now words.now }
@@ -140,17 +128,6 @@ fn push_hit(page: &mut Page, hit: Option<StandingHit>, words: &Words<'_>)
     push(page, b", ");
     push(page, words.place.as_slice());
     push(page, b" ");
-}
-
-// How a step used a line.
-fn use_word(kind: Kind) -> &'static [u8]
-    ensures text { result.now ≡ use_word kind }
-    ensures short { length result.now ≤ 18 }
-{
-    match kind {
-        Kind::Read => b": read at step ",
-        Kind::Write => b": written at step ",
-    }
 }
 
 // What had no room, and on which line.

@@ -8,6 +8,7 @@ use Rattle.hex.specs.Hex.{encode_lower}
 use Rattle.ia_regs.specs.declared.flags.Flags.{Flags}
 use Rattle.tm_model.specs.declared.outcome.CoreState.{CoreState}
 use Rattle.tm_model.specs.declared.outcome.CoreState.TheVariants as state
+use Rattle.tm_hist.specs.Machine.{depth_of}
 use Rattle.gdb_target.specs.declared.register.Register.{Register}
 use Rattle.gdb_target.specs.declared.register.Register.TheVariants.{Value, Missing}
 use Rattle.gdb_target.specs.declared.shown.CoreShown.{CoreShown}
@@ -27,14 +28,6 @@ state_number state.Mid = 0
 state_number (state.Open depth) = 1
 state_number (state.Condemned depth) = 2
 state_number (state.Stopped why) = 3
-
--- tm_depth
-abbrev pub depth_of : CoreState → ℕ
-depth_of state.Running = 0
-depth_of state.Mid = 0
-depth_of (state.Open depth) = depth
-depth_of (state.Condemned depth) = depth
-depth_of (state.Stopped why) = 0
 
 -- tm_state, tm_depth, tm_status, tm_reads, tm_writes and tm_step
 abbrev pub tm_value : CoreShown → ℕ → ℕ

@@ -6,7 +6,7 @@
 
 ghost use Rattle.std.specs.Prelude.{◌≡◌, ℕ, ◌+◌, ◌≤◌, ◌++◌};
 ghost use Rattle.arrayvec.specs.ArrayVec.{array_vec_len};
-ghost use Rattle.gdb_target.specs.Registers.{depth_of, eflags, register_of, register_text, registers_text};
+ghost use Rattle.gdb_target.specs.Registers.{eflags, register_of, register_text, registers_text};
 ghost use Rattle.gdb_target.specs.Registers.{state_number};
 ghost use Rattle.gdb_target.specs.Registers.{tm_value};
 
@@ -15,6 +15,7 @@ use bitflags::Flags as _;
 use gdb_packet::Bytes;
 use ia_regs::Flags;
 use text_out::page::{push, push_bytes};
+use tm_hist::depth_of;
 use tm_model::CoreState;
 
 /// How many registers there are.
@@ -46,15 +47,6 @@ fn state_number(state: CoreState) -> u32
     }
 }
 
-fn depth_of(state: CoreState) -> u32
-    ensures { result ≡ depth_of state }
-{
-    match state {
-        CoreState::Running | CoreState::Mid | CoreState::Stopped(_) => 0,
-        CoreState::Open(depth) | CoreState::Condemned(depth) => u32::from(depth),
-    }
-}
-
 // The registers of the transaction.
 fn tm_value(core: &CoreShown, number: u8) -> u32
     ensures { result ≡ tm_value core.now number }
@@ -62,7 +54,7 @@ fn tm_value(core: &CoreShown, number: u8) -> u32
     if number == 32 {
         state_number(core.state)
     } else if number == 33 {
-        depth_of(core.state)
+        u32::from(depth_of(core.state))
     } else if number == 34 {
         core.status
     } else if number == 35 {

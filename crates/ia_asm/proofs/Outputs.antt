@@ -16,10 +16,12 @@ use Rattle.ia_asm.specs.declared.program_layout.ProgramLayout.{ProgramLayout}
 use Rattle.ia_asm.specs.declared.code.Code.{Code}
 use Rattle.ia_asm.specs.declared.named_values.NamedValues.{NamedValues}
 use Rattle.ia_asm.specs.declared.listing.Lister.{Lister}
+use Rattle.ia_asm.specs.declared.marks.Marks.{Marks}
 use Rattle.ia_asm.specs.ListingText.{listing_text}
 use Rattle.ia_asm.specs.Lister.{listing_with}
-use Rattle.ia_asm.specs.Takers.{code_with, tail_with, names_with, HasBytes}
-use Rattle.ia_asm.specs.Assemblies.{IsCodeOf, definition, symbol_modulo, symbols_of, listing_of, code_of, tail_of}
+use Rattle.ia_asm.specs.Takers.{HasBytes, code_with, kinds_with, lines_with, names_with, tail_with}
+use Rattle.ia_asm.specs.Assemblies.{IsCodeOf, code_line, code_of, definition, kinds_of, lines_of, listing_of}
+use Rattle.ia_asm.specs.Assemblies.{symbol_kind, symbol_modulo, symbols_of, tail_of}
 use Rattle.ia_asm.specs.ProgramLayouts.{IsLayout}
 use Rattle.ia_asm.proofs.Ends.{code_fits}
 use Rattle.ia_asm.proofs.Placements.{is_placement}
@@ -54,6 +56,18 @@ names_are es a b none k =
     given_all names_with a b (all_places es) k
     ∙ ap (λ l. insert_all same_name l (map symbol_modulo (flat_map definition (all_places es)))) none
     ∙ all_modulo [] (flat_map definition (all_places es))
+
+pub kinds_are : (es : List Entry) (a b : Marks) → a.kinds.items ≡ [] → Keeps kinds_with a (all_places es) b
+    → b.kinds.items ≡ kinds_of es
+kinds_are es a b none k =
+    sym (append-nil b.kinds.items) ∙ given_all kinds_with a b (all_places es) k
+    ∙ ap (λ l. l ++ flat_map symbol_kind (all_places es)) none
+
+pub lines_are : (es : List Entry) (a b : Marks) → a.lines.items ≡ [] → Keeps lines_with a (all_places es) b
+    → b.lines.items ≡ lines_of es
+lines_are es a b none k =
+    sym (append-nil b.lines.items) ∙ given_all lines_with a b (all_places es) k
+    ∙ ap (λ l. l ++ flat_map code_line (all_places es)) none
 
 pub listing_is : (es : List Entry) (l : ProgramLayout) (a b : Lister) → IsLayout es l
     → ((ps : List EntryPlace) → listing_with a ps ≡ listing_text (known l.table.values.entries) ps)

@@ -16,6 +16,9 @@ use Rattle.ia_resolve.specs.declared.place_fault.PlaceFault.{PlaceFault}
 use Rattle.ia_asm.specs.declared.assembly.Unit.{Unit as Assembly}
 use Rattle.ia_asm.specs.declared.assembly.ProgramImage.{ProgramImage}
 use Rattle.ia_asm.specs.declared.assembly.CodeImage.{CodeImage}
+use Rattle.ia_asm.specs.declared.marks.CodeLine.{CodeLine}
+use Rattle.ia_asm.specs.declared.marks.SymbolKind.{SymbolKind}
+use Rattle.ia_asm.specs.declared.marks.SymbolKind.TheVariants.{Label, Equate}
 use Rattle.ia_asm.specs.Faults.{at_line}
 use Rattle.ia_asm.specs.ListingText.{listing_text}
 use Rattle.ia_layout.specs.Placement.{base_of, text_end, all_places, symbols, values, section_bytes, gap, code_and_data}
@@ -43,6 +46,23 @@ definition p = item_definition p.at p.critical_value p.entry.item
 abbrev pub named : List EntryPlace → List (Name × ℤ)
 named ps = insert_all same_name [] (flat_map definition ps)
 
+-- a label is one, and `equ` makes none
+unfoldable pub item_kind : Item → List SymbolKind
+item_kind (item.Label d) = Label ∷ []
+item_kind (item.Equ d s) = Equate ∷ []
+item_kind _ = []
+
+abbrev pub symbol_kind : EntryPlace → List SymbolKind
+symbol_kind p = item_kind p.entry.item
+
+-- an instruction stands at its address on its line
+unfoldable pub item_line : ℕ → ℕ → Item → List CodeLine
+item_line at line (item.Code t) = record { address = at % 2 ^ 32; line = line } ∷ []
+item_line at line _ = []
+
+abbrev pub code_line : EntryPlace → List CodeLine
+code_line p = item_line p.at p.entry.line p.entry.item
+
 -- the value beside a whole name
 abbrev pub known_as : List ℕ → List (Name × ℕ) → Option ℕ
 known_as name symbols = lookup (λ n. bytes_eq name (whole_name n)) symbols
@@ -59,6 +79,14 @@ fault_of es = first_fault (values (all_places es)) (base_of es) (all_places es)
 -- each symbol with its value modulo 2^32
 abbrev pub symbols_of : List Entry → List (Name × ℕ)
 symbols_of es = map symbol_modulo (named (all_places es))
+
+-- what each definition is, in the order of the source
+abbrev pub kinds_of : List Entry → List SymbolKind
+kinds_of es = flat_map symbol_kind (all_places es)
+
+-- where each instruction stands, in the order of the source
+abbrev pub lines_of : List Entry → List CodeLine
+lines_of es = flat_map code_line (all_places es)
 
 abbrev pub listing_of : List Entry → List ℕ
 listing_of es = listing_text (values (all_places es)) (all_places es)
@@ -77,11 +105,12 @@ pub record IsCodeOf (es : List Entry) (bytes : List ℕ) (at count : ℕ) : Type
 abbrev pub IsCode : List Entry → CodeImage → Type 0
 IsCode es c = IsCodeOf es c.image.items c.base c.code_len
 
--- and the symbols
+-- and the symbols, what they are, and where the instructions stand
 abbrev pub IsImage : List Entry → ProgramImage → Type 0
 IsImage es p = IsCodeOf es p.image.items p.base p.code_len × (p.symbols.entries ≡ symbols_of es)
+    × (p.kinds.items ≡ kinds_of es) × (p.lines.items ≡ lines_of es)
 
--- and the listing
+-- the image, the symbols and the listing
 abbrev pub IsAssembly : List Entry → Assembly → Type 0
 IsAssembly es u = IsCodeOf es u.image.items u.base u.code_len × (u.symbols.entries ≡ symbols_of es)
     × (u.listing.items ≡ listing_of es)

@@ -10,8 +10,11 @@ use Rattle.ia_resolve.specs.Symbols.{known}
 use Rattle.ia_layout.specs.Placement.{EntryPlace, section_bytes}
 use Rattle.ia_asm.specs.declared.code.Code.{Code}
 use Rattle.ia_asm.specs.declared.faults.FaultSearch.{FaultSearch}
+use Rattle.ia_asm.specs.declared.marks.CodeLine.{CodeLine}
+use Rattle.ia_asm.specs.declared.marks.Marks.{Marks}
+use Rattle.ia_asm.specs.declared.marks.SymbolKind.{SymbolKind}
 use Rattle.ia_asm.specs.declared.named_values.NamedValues.{NamedValues}
-use Rattle.ia_asm.specs.Assemblies.{definition, symbol_modulo, code_of, tail_of}
+use Rattle.ia_asm.specs.Assemblies.{code_line, code_of, definition, symbol_kind, symbol_modulo, tail_of}
 use Rattle.ia_asm.specs.Faults.{fault_from}
 
 -- the bytes of the code
@@ -25,6 +28,14 @@ tail_with c ps = c.tail.items ++ section_bytes InData (known c.symbols.now.value
 -- the symbols
 abbrev pub names_with : NamedValues → List EntryPlace → List (Name × ℕ)
 names_with n ps = insert_all same_name n.symbols.entries (map symbol_modulo (flat_map definition ps))
+
+-- what the symbols are
+abbrev pub kinds_with : Marks → List EntryPlace → List SymbolKind
+kinds_with m ps = m.kinds.items ++ flat_map symbol_kind ps
+
+-- where the instructions stand
+abbrev pub lines_with : Marks → List EntryPlace → List CodeLine
+lines_with m ps = m.lines.items ++ flat_map code_line ps
 
 -- the first line that has a fault, and its first fault
 abbrev pub faults_with : FaultSearch → List EntryPlace → Option (PlaceFault × ℕ)

@@ -3,6 +3,7 @@
 ghost use Rattle.std.specs.Prelude.{◌≡◌};
 ghost use Rattle.ia_asm.specs.Assemblies.{known_as};
 
+use crate::marks::{CodeLine, SymbolKind};
 use ia_item::Name;
 use indexmap::IndexMap;
 
@@ -21,7 +22,7 @@ pub struct Unit<'a> {
     pub listing: Vec<u8>,
 }
 
-/// What a source gives to run: its `Unit` without the listing.
+/// What a source gives to run: its `Unit` without the listing, and by what its addresses are told.
 #[derive(Drop)]
 pub struct ProgramImage<'a> {
     /// The code, and behind it, at the next multiple of 64, the data, if any.
@@ -32,6 +33,10 @@ pub struct ProgramImage<'a> {
     pub code_len: u32,
     /// The symbols in the order of the source, with their values modulo 2^32.
     pub symbols: IndexMap<Name<'a>, u32>,
+    /// What each of the symbols is defined as, in the same order.
+    pub kinds: Vec<SymbolKind>,
+    /// Where the instructions stand, in the order of the source.
+    pub lines: Vec<CodeLine>,
 }
 
 /// The image that a source gives: its `Unit` without the symbols and the listing.

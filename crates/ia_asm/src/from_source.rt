@@ -1,7 +1,7 @@
 //! From a source to what it gives.
 
 ghost use Rattle.std.specs.Prelude.{◌≡◌, [], MatchResult};
-ghost use Rattle.ia_asm.specs.Assemblies.{symbols_of, listing_of};
+ghost use Rattle.ia_asm.specs.Assemblies.{kinds_of, lines_of, listing_of, symbols_of};
 ghost use Rattle.ia_asm.specs.Assembles.{Assembles, AssemblesImage, AssemblesCode, GivesListing, RefusedAs};
 ghost use Rattle.ia_asm.specs.Lister.{listing_with};
 ghost use Rattle.ia_asm.specs.ProgramLayouts.{IsLaidOut, HasLaidOut};
@@ -11,6 +11,7 @@ use crate::assembly::{CodeImage, ProgramImage, Unit};
 use crate::code::{Code, image_of};
 use crate::fault::AsmFault;
 use crate::listing::Lister;
+use crate::marks::Marks;
 use crate::named_values::NamedValues;
 use crate::program_layout::{ProgramLayout, lay_out, take_all};
 use ia_layout::Both;
@@ -33,21 +34,26 @@ fn take_code<'t>(
     Ok(taken)
 }
 
-/// The bytes and the symbols of the entries of a source that is laid out.
+/// The bytes, the symbols and the marks of the entries of a source that is laid out.
 fn take_program<'t, 'a: 't>(
     alloc: Global,
     layout: &'t ProgramLayout,
     reader: &mut Reader<'a>,
-) -> Result<Both<Code<'t>, NamedValues<'a>>, AsmFault>
+) -> Result<Both<Both<Code<'t>, NamedValues<'a>>, Marks>, AsmFault>
     requires { IsLaidOut reader.old.source.now reader.old.names layout.now }
     ensures { MatchResult result
         (λ t. HasLaidOut reader.old.source.now layout.now (λ es.
-        HasBytes es t.first × (t.second.symbols.entries ≡ symbols_of es)))
+        HasBytes es t.first.first × (t.first.second.symbols.entries ≡ symbols_of es)
+        × (t.second.kinds.items ≡ kinds_of es) × (t.second.lines.items ≡ lines_of es)))
         (RefusedAs reader.old.source.now) }
 {
-    let taker = Both {
+    let program = Both {
         first: Code::new(alloc, &layout.table),
         second: NamedValues::new(alloc),
+    };
+    let taker = Both {
+        first: program,
+        second: Marks::new(alloc),
     };
     let taken = take_all(alloc, layout, taker, reader)?;
     Ok(taken)
@@ -126,12 +132,18 @@ pub fn assemble_image<'a>(alloc: Global, source: &'a [u8]) -> Result<ProgramImag
     let mut reader = Reader::new(alloc, source);
     let layout = lay_out(alloc, &mut reader)?;
     let taken = take_program(alloc, &layout, &mut reader)?;
-    let image = image_of(&layout, taken.first)?;
+    let Both {
+        first: program,
+        second: marks,
+    } = taken;
+    let image = image_of(&layout, program.first)?;
     Ok(ProgramImage {
         image: image.image,
         base: image.base,
         code_len: image.code_len,
-        symbols: taken.second.symbols,
+        symbols: program.second.symbols,
+        kinds: marks.kinds,
+        lines: marks.lines,
     })
 }
 

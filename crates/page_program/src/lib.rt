@@ -12,5 +12,5 @@ mod program;
 mod sources;
 
 pub use code::Loaded;
-pub use program::{Form, write_program};
+pub use program::write_program;
 pub use sources::Sources;

@@ -6,9 +6,10 @@
 
 use crate::code::{Loaded, address_of, length_at, text_at, write_text_at};
 use crate::sources::Sources;
-use elide_places::{Label, SymbolText, push_source_place};
+use elide_places::{SymbolText, push_source_place};
 use page_text::{LINE, write_number, write_string};
 use std::alloc::{AllocError, Global};
+use symbols::{Mark, marks_of, standing_at};
 use text_out::page::{Page, push, push_eight};
 use text_out::{Out, WriteFault};
 
@@ -20,9 +21,9 @@ const NEAR: usize = 6;
 
 /// A row of a listing.
 #[derive(Clone, Copy)]
-pub enum Row {
-    /// The label with this index.
-    Label(usize),
+pub enum Row<'a> {
+    /// A label.
+    Label(Mark<'a>),
     /// What stands at this distance from the first byte of the code.
     Code(usize),
 }
@@ -40,18 +41,22 @@ enum Sight {
 
 /// A listing.
 #[derive(Drop)]
-pub struct Listing {
-    rows: Vec<Row>,
+pub struct Listing<'a> {
+    rows: Vec<Row<'a>>,
     // Where each row is seen.
     sights: Vec<Sight>,
     // How many rows the sources take above the listing.
     above: u64,
 }
 
-impl Listing {
+impl<'a> Listing<'a> {
     /// That of a program, whose instructions at these distances ran: a long one where these are, and near them. What
     /// comes from a line of a source that is shown stands there.
-    pub fn of(loaded: Loaded<'_>, sources: &Sources, ran: &[bool]) -> Result<Listing, AllocError> {
+    pub fn of(
+        loaded: Loaded<'a>,
+        sources: &Sources,
+        ran: &[bool],
+    ) -> Result<Listing<'a>, AllocError> {
         let alloc = loaded.alloc;
         let rows = rows_of(loaded, ran)?;
         let mut shown = vec![in alloc; rows.len() <= WHOLE; rows.len()]?;
@@ -72,7 +77,7 @@ impl Listing {
 fn sights_of(
     loaded: Loaded<'_>,
     sources: &Sources,
-    rows: &[Row],
+    rows: &[Row<'_>],
     shown: &[bool],
 ) -> Result<Vec<Sight>, AllocError> {
     let mut sights = Vec::new(loaded.alloc);
@@ -89,7 +94,7 @@ fn sights_of(
 
 // Where a row is seen that is shown: one from a line of a source in that, but for a label there, which is none of its
 // lines.
-fn sight_of(loaded: Loaded<'_>, sources: &Sources, row: Row) -> Sight {
+fn sight_of(loaded: Loaded<'_>, sources: &Sources, row: Row<'_>) -> Sight {
     match row {
         Row::Code(offset) => {
             match sources.row_of(loaded, address_of(loaded.setup, offset)) {
@@ -97,28 +102,23 @@ fn sight_of(loaded: Loaded<'_>, sources: &Sources, row: Row) -> Sight {
                 None => Sight::Listed,
             }
         }
-        Row::Label(index) => match loaded.places.labels().get(index) {
-            Some(label) if sources.row_of(loaded, label.address()).is_some() => Sight::Hidden,
-            _ => Sight::Listed,
+        Row::Label(mark) => match sources.row_of(loaded, mark.address) {
+            Some(_) => Sight::Hidden,
+            None => Sight::Listed,
         },
     }
 }
 
 // The rows of a listing: the instructions one behind the other, and what ran within one.
-fn rows_of(loaded: Loaded<'_>, ran: &[bool]) -> Result<Vec<Row>, AllocError> {
+fn rows_of<'a>(loaded: Loaded<'a>, ran: &[bool]) -> Result<Vec<Row<'a>>, AllocError> {
     let setup = loaded.setup;
-    let order = by_address(loaded.alloc, loaded.places.labels())?;
+    let marks = marks_of(loaded.alloc, loaded.places.labels())?;
     let mut rows = Vec::new(loaded.alloc);
     let mut next = 0;
-    let mut label = 0;
     for offset in 0..ran.len() {
         if offset == next || ran[offset] {
-            label = push_labels(
-                &mut rows,
-                order.as_slice(),
-                label,
-                address_of(setup, offset),
-            )?;
+            let standing = standing_at(marks.as_slice(), address_of(setup, offset));
+            push_labels(&mut rows, standing)?;
             rows.push(Row::Code(offset))?;
         }
         if offset == next {
@@ -128,39 +128,16 @@ fn rows_of(loaded: Loaded<'_>, ran: &[bool]) -> Result<Vec<Row>, AllocError> {
     Ok(rows)
 }
 
-// The labels' addresses and their places in the list, in the order of the addresses.
-fn by_address(alloc: Global, labels: &[Label]) -> Result<Vec<(u32, usize)>, AllocError> {
-    let mut order = Vec::new(alloc);
-    for (index, label) in labels.iter().enumerate() {
-        order
-            .push((label.address(), index))
-            .map_err(|_| AllocError)?;
+// Adds the labels at an address.
+fn push_labels<'a>(rows: &mut Vec<Row<'a>>, marks: &[Mark<'a>]) -> Result<(), AllocError> {
+    for mark in marks {
+        rows.push(Row::Label(*mark))?;
     }
-    order.as_mut_slice().sort_unstable();
-    Ok(order)
-}
-
-// Adds the labels at an address, from this one of the order on, and tells which is the first above it.
-fn push_labels(
-    rows: &mut Vec<Row>,
-    order: &[(u32, usize)],
-    next: usize,
-    at: u32,
-) -> Result<usize, AllocError> {
-    for place in next..order.len() {
-        let (address, index) = order[place];
-        if address > at {
-            return Ok(place);
-        }
-        if address == at {
-            rows.push(Row::Label(index))?;
-        }
-    }
-    Ok(order.len())
+    Ok(())
 }
 
 // Shows what ran, and the rows near it.
-fn show_near(rows: &[Row], ran: &[bool], shown: &mut Vec<bool>) {
+fn show_near(rows: &[Row<'_>], ran: &[bool], shown: &mut Vec<bool>) {
     for index in 0..rows.len() {
         if has_run(rows[index], ran) {
             show_around(shown, index);
@@ -168,7 +145,7 @@ fn show_near(rows: &[Row], ran: &[bool], shown: &mut Vec<bool>) {
     }
 }
 
-fn has_run(row: Row, ran: &[bool]) -> bool {
+fn has_run(row: Row<'_>, ran: &[bool]) -> bool {
     match row {
         Row::Label(_) => false,
         Row::Code(offset) => match ran.get(offset) {
@@ -221,7 +198,7 @@ impl Cursor {
 /// empty one.
 pub fn write_listing<O: Out>(
     loaded: Loaded<'_>,
-    listing: &Listing,
+    listing: &Listing<'_>,
     out: &mut O,
 ) -> Result<(), WriteFault> {
     let mut cursor = Cursor::below(listing.above);
@@ -251,23 +228,19 @@ fn write_separator<O: Out>(lines: u64, out: &mut O) -> Result<(), WriteFault> {
 // Writes a row: a label, or an address and what stands there, with the place of its source where that is another one.
 fn write_row<O: Out>(
     loaded: Loaded<'_>,
-    row: Row,
+    row: Row<'_>,
     last: &mut SymbolText,
     out: &mut O,
 ) -> Result<(), WriteFault> {
     match row {
-        Row::Label(index) => write_label(loaded, index, out),
+        Row::Label(mark) => write_label(loaded.alloc, mark, out),
         Row::Code(offset) => write_code(loaded, offset, last, out),
     }
 }
 
-fn write_label<O: Out>(loaded: Loaded<'_>, index: usize, out: &mut O) -> Result<(), WriteFault> {
-    let alloc = loaded.alloc;
-    let Some(label) = loaded.places.labels().get(index) else {
-        return write_string(b"", LINE, out);
-    };
+fn write_label<O: Out>(alloc: Global, mark: Mark<'_>, out: &mut O) -> Result<(), WriteFault> {
     let mut line = Vec::new(alloc);
-    if line.extend_from_slice(label.shown()).is_err() || line.extend_from_slice(b":").is_err() {
+    if line.extend_from_slice(mark.name).is_err() || line.extend_from_slice(b":").is_err() {
         return Err(WriteFault::Write);
     }
     write_string(line.as_slice(), LINE, out)
@@ -310,7 +283,7 @@ fn line_of(alloc: Global, address: u32, text: &[u8], place: &[u8]) -> Result<Vec
 /// Writes of each instruction that is shown its address, the index of its line, and its text.
 pub fn write_spots<O: Out>(
     loaded: Loaded<'_>,
-    listing: &Listing,
+    listing: &Listing<'_>,
     out: &mut O,
 ) -> Result<(), WriteFault> {
     let mut cursor = Cursor::below(listing.above);

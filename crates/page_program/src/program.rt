@@ -8,19 +8,9 @@ use crate::code::{Loaded, address_of, insn_at};
 use crate::lines::write_lines;
 use crate::listing::{Listing, write_listing, write_spot, write_spots};
 use crate::sources::Sources;
+use elide_program::Form;
 use elide_setup::Refusal;
 use text_out::{Out, WriteFault};
-
-/// What a program is written as.
-#[derive(Clone, Copy, PartialEq, Eq, Debug)]
-pub enum Form {
-    /// A source, whose lines are shown.
-    Source,
-    /// An executable, of which a listing is shown.
-    Executable,
-    /// Image text, of which a listing is shown.
-    Image,
-}
 
 /// Writes the lines of a program of this text, of which the instructions at these distances from the first byte of the
 /// code ran, and where its instructions stand in them. The lines of an executable's sources come before those of its
@@ -62,7 +52,7 @@ fn write_listed<O: Out>(
 fn write_both<O: Out>(
     loaded: Loaded<'_>,
     sources: &Sources,
-    listing: &Listing,
+    listing: &Listing<'_>,
     out: &mut O,
 ) -> Result<(), WriteFault> {
     if sources.rows() > 0 {

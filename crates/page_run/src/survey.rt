@@ -10,7 +10,8 @@ ghost use Rattle.elide_setup.specs.Refused.{IsNoCore};
 ghost use Rattle.page_run.specs.Refused.{IsNotSurveyed};
 
 use crate::window::Extent;
-use elide_setup::{Course, Progress, Refusal, Setup, StepMaker, new_machine, shown_memory};
+use elide_device::Progress;
+use elide_setup::{Course, Refusal, Setup, StepMaker, new_machine, shown_memory};
 use ia_addr::Access;
 use ia_word::Width;
 use std::alloc::Global;

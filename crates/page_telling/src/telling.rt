@@ -22,7 +22,8 @@ ghost use Rattle.page_telling.specs.Told.{AreLinesWritten, line_front, line_text
 
 use crate::kept::Kept;
 use crate::opening::{Behind, put_opening};
-use elide_setup::{Fault, Refusal, Silent, StepMaker, new_machine};
+use elide_device::Silent;
+use elide_setup::{Fault, Refusal, StepMaker, new_machine};
 use page_run::{LineUse, Stretch, Window, put_plain};
 use page_steps::write_step;
 use std::alloc::{AllocError, Global};

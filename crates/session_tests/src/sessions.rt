@@ -3,7 +3,7 @@
 
 mod broken;
 
-use debug_command::{CommandName, Manner, Names, Range, Refusal};
+use debug_command::{CommandName, CommandRefusal, Manner, Names, Range};
 use ia_image::load;
 use std::alloc::Global;
 use std::io::Cursor;
@@ -91,14 +91,18 @@ fn lent_devices(rt: HostRuntime) {
 #[test]
 fn refusals_and_faults_have_numbers(rt: HostRuntime) -> Result<(), Fail> {
     let cases = [
-        (Refusal::UnknownCommand, 70, "UnknownCommand"),
-        (Refusal::LongLine, 70, "LongLine"),
-        (Refusal::BadArgument(CommandName::Mem), 71, "BadArgument"),
-        (Refusal::NoSuchSymbol, 71, "NoSuchSymbol"),
-        (Refusal::NoSuchCore(2), 72, "NoSuchCore"),
-        (Refusal::OutOfRange(Range::Lines), 73, "OutOfRange"),
-        (Refusal::LimitReached, 74, "LimitReached"),
-        (Refusal::TooManyBreakpoints, 75, "TooManyBreakpoints"),
+        (CommandRefusal::UnknownCommand, 70, "UnknownCommand"),
+        (CommandRefusal::LongLine, 70, "LongLine"),
+        (
+            CommandRefusal::BadArgument(CommandName::Mem),
+            71,
+            "BadArgument",
+        ),
+        (CommandRefusal::NoSuchSymbol, 71, "NoSuchSymbol"),
+        (CommandRefusal::NoSuchCore(2), 72, "NoSuchCore"),
+        (CommandRefusal::OutOfRange(Range::Lines), 73, "OutOfRange"),
+        (CommandRefusal::LimitReached, 74, "LimitReached"),
+        (CommandRefusal::TooManyBreakpoints, 75, "TooManyBreakpoints"),
     ];
     for (refusal, number, name) in cases {
         assert_eq!(rt; refusal.code(), number);

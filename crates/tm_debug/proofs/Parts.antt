@@ -4,7 +4,7 @@ use Rattle.std.proofs.Common.{arith, inr, subst}
 use Rattle.std.specs.Prelude.{Result, Ok, Err, IsErr, OnErr, OnOk}
 use Rattle.ia_text.specs.Listing.{shown_bytes}
 use Rattle.debug_command.specs.Places.{labelled_line}
-use Rattle.debug_command.specs.declared.symbol.Symbol.{Symbol}
+use Rattle.symbols.specs.declared.symbol.Symbol.{Symbol}
 use Rattle.text_out.specs.Writing.{Device, Stopped, Writes, Wrote}
 use Rattle.text_out.proofs.Writing.{writes_stopped, writes_then, wrote_none, wrote_then}
 use Rattle.tm_model.specs.declared.outcome.Pick.{Pick}

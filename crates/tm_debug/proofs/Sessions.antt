@@ -10,13 +10,13 @@ use Rattle.tm_debug.specs.declared.line.Line.{Line}
 use Rattle.tm_debug.specs.declared.line.Line.TheVariants as read
 use Rattle.tm_debug.specs.declared.session.Request.{Request}
 use Rattle.tm_debug.specs.declared.session.Request.TheVariants.{Do, Leave, Nothing, Refuse}
-use Rattle.debug_command.specs.declared.command.Command.{Command}
-use Rattle.debug_command.specs.declared.command.Command.TheVariants as command
+use Rattle.debug_command.specs.declared.command.DebugCommand.{DebugCommand}
+use Rattle.debug_command.specs.declared.command.DebugCommand.TheVariants as command
 use Rattle.debug_command.specs.declared.manner.Manner.{Manner}
 use Rattle.debug_command.specs.declared.manner.Manner.TheVariants.{Plain, Spoken}
-use Rattle.debug_command.specs.declared.refusal.Refusal.TheVariants.{LongLine}
+use Rattle.debug_command.specs.declared.refusal.CommandRefusal.TheVariants.{LongLine}
 use Rattle.debug_command.specs.Commands.{command_of}
-use Rattle.debug_command.specs.declared.symbol.Symbol.{Symbol}
+use Rattle.symbols.specs.declared.symbol.Symbol.{Symbol}
 use Rattle.debug_command.specs.Words.{first_word}
 use Rattle.std.proofs.lemmas.Bool.{lt-ltb}
 use Rattle.tm_debug.specs.declared.interruption.Interruption.TheVariants as interruption
@@ -365,7 +365,7 @@ run_rose : (way : Way) (number : ℕ) (q s : SessionValue) (b : Bool) (d1 d2 : D
 run_rose way number q s true d1 d2 broken = rose_after broken.wrote.failures broken.stopped.failures
 run_rose way number q s false d1 d2 broken = broken.2.failures
 
-broken_rose : (command : Command) (q s : SessionValue) (d1 d2 : Device) → AnswersBroken command q d1 d2 s
+broken_rose : (command : DebugCommand) (q s : SessionValue) (d1 d2 : Device) → AnswersBroken command q d1 d2 s
     → Rose d1.failures d2.failures
 broken_rose (command.Run number) q s d1 d2 broken = run_rose InTurn number q s (is_run_length number) d1 d2 broken
 broken_rose (command.Next number) q s d1 d2 broken = run_rose AlongPlan number q s (is_run_length number) d1 d2 broken

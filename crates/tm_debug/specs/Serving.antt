@@ -6,12 +6,12 @@ use Rattle.ia_lex.specs.Chars.{differs}
 use Rattle.ia_lex.specs.Lines.{lines_of}
 use Rattle.text_out.specs.Writing.{Device, Stopped, Writes, Wrote}
 use Rattle.tm_hist.specs.Board.{ShownBoard as Board}
-use Rattle.debug_command.specs.declared.command.Command.{Command}
-use Rattle.debug_command.specs.declared.command.Command.TheVariants.{Quit}
-use Rattle.debug_command.specs.declared.command.Command.TheVariants as command
-use Rattle.debug_command.specs.declared.refusal.Refusal.{Refusal}
-use Rattle.debug_command.specs.declared.refusal.Refusal.TheVariants.{LongLine}
-use Rattle.debug_command.specs.declared.symbol.Symbol.{Symbol}
+use Rattle.debug_command.specs.declared.command.DebugCommand.{DebugCommand}
+use Rattle.debug_command.specs.declared.command.DebugCommand.TheVariants.{Quit}
+use Rattle.debug_command.specs.declared.command.DebugCommand.TheVariants as command
+use Rattle.debug_command.specs.declared.refusal.CommandRefusal.{CommandRefusal}
+use Rattle.debug_command.specs.declared.refusal.CommandRefusal.TheVariants.{LongLine}
+use Rattle.symbols.specs.declared.symbol.Symbol.{Symbol}
 use Rattle.tm_debug.specs.declared.line.Line.{Line}
 use Rattle.tm_debug.specs.declared.line.Line.TheVariants as read
 use Rattle.tm_debug.specs.declared.line.LineStart.{LineStart}
@@ -25,7 +25,7 @@ use Rattle.tm_debug.specs.Session.{Answers, AnswersBroken, AnswerStopped, Sessio
 use Rattle.debug_command.specs.Words.{first_word}
 
 -- what a command requests
-abbrev pub request_for : Result Command Refusal → Request
+abbrev pub request_for : Result DebugCommand CommandRefusal → Request
 request_for (Err refusal) = Refuse refusal
 request_for (Ok command.Quit) = Leave
 request_for (Ok command.Help) = Do command.Help
@@ -41,7 +41,7 @@ request_for (Ok (command.Sets core)) = Do (command.Sets core)
 request_for (Ok (command.Why core)) = Do (command.Why core)
 request_for (Ok (command.List at number)) = Do (command.List at number)
 
-abbrev pub request_by : Bool → Bool → Result Command Refusal → Request
+abbrev pub request_by : Bool → Bool → Result DebugCommand CommandRefusal → Request
 request_by true blank read = Refuse LongLine
 request_by false true read = Nothing
 request_by false false read = request_for read
@@ -197,7 +197,7 @@ FailsToWriteIn Spoken input left from old new board =
 
 -- the commands that take memory: a core's sets, and to take steps back and to tell why a core aborts, which make a
 -- board of their own
-abbrev pub TakesMemory : Command → Type 0
+abbrev pub TakesMemory : DebugCommand → Type 0
 TakesMemory (command.Sets core) = ⊤
 TakesMemory (command.Why core) = ⊤
 TakesMemory (command.Back count) = ⊤

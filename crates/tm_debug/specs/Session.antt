@@ -29,16 +29,17 @@ use Rattle.tm_trace.specs.Deeds.{IsBefore, IsDeed}
 use Rattle.tm_trace.specs.Lines.{step_line}
 use Rattle.tm_trace.specs.declared.deed.Before.{Before}
 use Rattle.tm_trace.specs.declared.deed.Deed.{Deed}
-use Rattle.debug_command.specs.declared.command.Command.{Command}
-use Rattle.debug_command.specs.declared.command.Command.TheVariants.{Step, Run, Next, Back, Break, Clear, Regs, Mem}
-use Rattle.debug_command.specs.declared.command.Command.TheVariants.{Sets, Why}
-use Rattle.debug_command.specs.declared.command.Command.TheVariants.{List as Listing, Help, Quit}
+use Rattle.debug_command.specs.declared.command.DebugCommand.{DebugCommand}
+use Rattle.debug_command.specs.declared.command.DebugCommand.TheVariants.{Step, Run, Next, Back, Break, Clear, Regs}
+use Rattle.debug_command.specs.declared.command.DebugCommand.TheVariants.{Mem}
+use Rattle.debug_command.specs.declared.command.DebugCommand.TheVariants.{Sets, Why}
+use Rattle.debug_command.specs.declared.command.DebugCommand.TheVariants.{List as Listing, Help, Quit}
 use Rattle.debug_command.specs.declared.manner.Manner.{Manner}
 use Rattle.debug_command.specs.declared.manner.Manner.TheVariants.{Plain, Spoken}
 use Rattle.debug_command.specs.declared.refusal.Range.TheVariants.{Addresses, Bytes, Lines, Made, Steps}
-use Rattle.debug_command.specs.declared.refusal.Refusal.{Refusal}
-use Rattle.debug_command.specs.declared.refusal.Refusal.TheVariants.{LimitReached, NoSuchCore, OutOfRange}
-use Rattle.debug_command.specs.declared.refusal.Refusal.TheVariants.{TooManyBreakpoints}
+use Rattle.debug_command.specs.declared.refusal.CommandRefusal.{CommandRefusal}
+use Rattle.debug_command.specs.declared.refusal.CommandRefusal.TheVariants.{LimitReached, NoSuchCore, OutOfRange}
+use Rattle.debug_command.specs.declared.refusal.CommandRefusal.TheVariants.{TooManyBreakpoints}
 use Rattle.tm_debug.specs.declared.interruption.Interruption.{Interruption}
 use Rattle.tm_debug.specs.declared.interruption.Interruption.TheVariants as interruption
 use Rattle.tm_debug.specs.declared.state.RunCheck.{RunCheck}
@@ -49,7 +50,7 @@ use Rattle.tm_debug.specs.declared.state.SessionState.{SessionState}
 use Rattle.tm_debug.specs.Help.{help_text}
 use Rattle.debug_command.specs.Places.{labelled_line, place_text}
 use Rattle.debug_command.specs.Refusals.{refusal_line}
-use Rattle.debug_command.specs.declared.symbol.Symbol.{Symbol}
+use Rattle.symbols.specs.declared.symbol.Symbol.{Symbol}
 
 -- between two lines: how it speaks, the plan (the pick of each step), the program's symbols, by which commands write
 -- addresses, its labels, by which answers tell them, the board, the breakpoints, and the number behind that of the core
@@ -356,7 +357,7 @@ abbrev pub BackAnswer : SessionValue → ℕ → List ℕ → SessionValue → T
 BackAnswer from count text to = back_by (is_behind from count) from count text to
 
 -- ok, or the refusal
-abbrev pub done_line : Manner → Result (Unit {0}) Refusal → List ℕ
+abbrev pub done_line : Manner → Result (Unit {0}) CommandRefusal → List ℕ
 done_line manner (Ok done) = ok_line
 done_line manner (Err refusal) = refusal_line manner refusal
 
@@ -372,13 +373,13 @@ with_breaks session breaks = record {
 }
 
 -- a breakpoint is set at most once, and at most 64 are
-abbrev pub set_at : Option ℕ → SessionValue → ℕ → Result (Unit {0}) Refusal × SessionValue
+abbrev pub set_at : Option ℕ → SessionValue → ℕ → Result (Unit {0}) CommandRefusal × SessionValue
 set_at (Some i) session address = (Ok tt, session)
 set_at None session address =
     if length session.breaks == 64 then (Err TooManyBreakpoints, session)
     else (Ok tt, with_breaks session (session.breaks ++ address ∷ []))
 
-abbrev pub set_break : SessionValue → ℕ → Result (Unit {0}) Refusal × SessionValue
+abbrev pub set_break : SessionValue → ℕ → Result (Unit {0}) CommandRefusal × SessionValue
 set_break session address = if nat_lt (2 ^ 32 - 1) address then (Err (OutOfRange Addresses), session)
     else set_at (position (λ b. b == address) session.breaks) session address
 
@@ -386,7 +387,7 @@ abbrev pub unset_at : Option ℕ → SessionValue → SessionValue
 unset_at None session = session
 unset_at (Some i) session = with_breaks session (remove session.breaks i)
 
-abbrev pub unset_break : SessionValue → ℕ → Result (Unit {0}) Refusal × SessionValue
+abbrev pub unset_break : SessionValue → ℕ → Result (Unit {0}) CommandRefusal × SessionValue
 unset_break session address = if nat_lt (2 ^ 32 - 1) address then (Err (OutOfRange Addresses), session)
     else (Ok tt, unset_at (position (λ b. b == address) session.breaks) session)
 
@@ -448,7 +449,7 @@ abbrev pub TellsAnswer : {T E : Type 0} → (List ℕ → SessionValue → Type 
 TellsAnswer answer old new to result = (text : List ℕ) × answer text to × Writes old new text result
 
 -- what each command answers at p, and what it leads to
-abbrev pub Answers : Command → SessionValue → List ℕ → SessionValue → Type 0
+abbrev pub Answers : DebugCommand → SessionValue → List ℕ → SessionValue → Type 0
 Answers (Step core event) from text to = StepAnswer from core event text to
 Answers (Run number) from text to = RunAnswer InTurn number from text to
 Answers (Next number) from text to = RunAnswer AlongPlan number from text to
@@ -467,7 +468,7 @@ Answers Help from text to = (text ≡ help_text) × (to ≡ from)
 Answers Quit from text to = (text ≡ bye_line) × (to ≡ from)
 
 -- the same where the writing of it failed
-abbrev pub AnswersBroken : Command → SessionValue → Device → Device → SessionValue → Type 0
+abbrev pub AnswersBroken : DebugCommand → SessionValue → Device → Device → SessionValue → Type 0
 AnswersBroken (Run number) from old new to = RunAnswerBroken InTurn number from old new to
 AnswersBroken (Next number) from old new to = RunAnswerBroken AlongPlan number from old new to
 AnswersBroken (Step core event) from old new to = AnswerStopped (Answers (Step core event) from) old new to

@@ -16,10 +16,11 @@ ghost use Rattle.debug_command.specs.Places.{place_text};
 ghost use Rattle.debug_command.specs.Refusals.{refusal_line};
 ghost use Rattle.text_out.specs.TextLine.{line_end};
 
-use crate::state::{MOST_BREAKPOINTS, RunCheck, SessionState, core_count};
+use crate::state::{MOST_BREAKPOINTS, RunCheck, SessionState};
 use crate::told::{told_step, write_told};
-use debug_command::{Manner, Range, Refusal, Symbol, refuse, write_labelled, write_place};
+use debug_command::{CommandRefusal, Manner, Range, refuse, write_labelled, write_place};
 use ia_image::Program;
+use symbols::Symbol;
 use text_out::page::{push, push_eight};
 use text_out::text_line::{TextLine, push_number};
 use text_out::{Out, WriteFault};
@@ -30,11 +31,11 @@ use tm_model::{Event, Pick};
 /// Tells that there is no core of a number.
 pub fn refuse_core<O: Out>(state: &SessionState, out: &mut O) -> Result<(), WriteFault>
     ensures { Writes (O.device out.old) (O.device out.new)
-        (refusal_line state.now.manner (Refusal.NoSuchCore (cores_of (value_of state.now)))) result }
+        (refusal_line state.now.manner (CommandRefusal.NoSuchCore (cores_of (value_of state.now)))) result }
 {
     refuse(
         state.manner,
-        Refusal::NoSuchCore(core_count(&state.board)),
+        CommandRefusal::NoSuchCore(state.board.cores()),
         out,
     )
 }
@@ -52,7 +53,7 @@ pub fn core_of(state: &SessionState, core: u64) -> Option<u8>
     ensures named { result ≡ core_named (value_of state.now) core }
     ensures exists { IfSome result (λ c. c < length state.now.board.machine.views) }
 {
-    if core < u64::from(core_count(&state.board)) {
+    if core < u64::from(state.board.cores()) {
         Some(core as u8)
     } else {
         None
@@ -76,7 +77,7 @@ pub fn step<O: Out>(
     match told_step(state, Pick { core, event }) {
         Ok(told) => write_told(state.told_labels(), core, &told, out),
         Err(StepFault::NoSuchCore) => refuse_core(state, out),
-        Err(StepFault::LimitReached) => refuse(manner, Refusal::LimitReached, out),
+        Err(StepFault::LimitReached) => refuse(manner, CommandRefusal::LimitReached, out),
     }
 }
 
@@ -121,8 +122,8 @@ pub fn end_run<O: Out>(state: &SessionState, check: RunCheck, out: &mut O) -> Re
     match check {
         RunCheck::AllStopped => out.put(b"all stopped\n")?,
         RunCheck::PlanEnded => out.put(b"the schedule has ended\n")?,
-        RunCheck::NoCore(count) => refuse(state.manner, Refusal::NoSuchCore(count), out)?,
-        RunCheck::Full => refuse(state.manner, Refusal::LimitReached, out)?,
+        RunCheck::NoCore(count) => refuse(state.manner, CommandRefusal::NoSuchCore(count), out)?,
+        RunCheck::Full => refuse(state.manner, CommandRefusal::LimitReached, out)?,
         RunCheck::AtBreakpoint(core, address) => {
             write_break(state.told_labels(), core, address, out)?
         }
@@ -139,29 +140,29 @@ fn position_of(breakpoints: &[u32], address: u32) -> Option<usize>
 }
 
 // Sets a breakpoint, or says why not.
-fn set(state: &mut SessionState, address: u64) -> Result<(), Refusal>
+fn set(state: &mut SessionState, address: u64) -> Result<(), CommandRefusal>
     ensures { (result, value_of state.new) ≡ set_break (value_of state.old) address }
 {
     if address > u64::from(u32::MAX) {
-        return Err(Refusal::OutOfRange(Range::Addresses));
+        return Err(CommandRefusal::OutOfRange(Range::Addresses));
     }
     let address = address as u32;
     if position_of(state.breakpoints.as_slice(), address).is_some() {
         return Ok(());
     }
     if state.breakpoints.len() == MOST_BREAKPOINTS {
-        return Err(Refusal::TooManyBreakpoints);
+        return Err(CommandRefusal::TooManyBreakpoints);
     }
     state.breakpoints.push(address);
     Ok(())
 }
 
 // Takes a breakpoint away, or says why not.
-fn unset(state: &mut SessionState, address: u64) -> Result<(), Refusal>
+fn unset(state: &mut SessionState, address: u64) -> Result<(), CommandRefusal>
     ensures { (result, value_of state.new) ≡ unset_break (value_of state.old) address }
 {
     if address > u64::from(u32::MAX) {
-        return Err(Refusal::OutOfRange(Range::Addresses));
+        return Err(CommandRefusal::OutOfRange(Range::Addresses));
     }
     if let Some(index) = position_of(state.breakpoints.as_slice(), address as u32) {
         let _ = state.breakpoints.remove(index);
@@ -169,7 +170,11 @@ fn unset(state: &mut SessionState, address: u64) -> Result<(), Refusal>
     Ok(())
 }
 
-fn tell<O: Out>(manner: Manner, done: Result<(), Refusal>, out: &mut O) -> Result<(), WriteFault>
+fn tell<O: Out>(
+    manner: Manner,
+    done: Result<(), CommandRefusal>,
+    out: &mut O,
+) -> Result<(), WriteFault>
     ensures { Writes (O.device out.old) (O.device out.new) (done_line manner done) result }
 {
     match done {
@@ -234,7 +239,7 @@ pub fn mem<O: Out>(
         || at > memory.len() as u64
         || count > memory.len() as u64 - at
     {
-        return refuse(manner, Refusal::OutOfRange(Range::Bytes), out);
+        return refuse(manner, CommandRefusal::OutOfRange(Range::Bytes), out);
     }
     let from = at as usize;
     write_dump(&memory[from..from + count as usize], at as u32, out)
@@ -277,7 +282,7 @@ pub fn list<O: Out>(
     let code = program.code();
     let base = u64::from(program.base());
     if !(1..=64).contains(&count) || at < base || at - base >= code.len() as u64 {
-        return refuse(manner, Refusal::OutOfRange(Range::Lines), out);
+        return refuse(manner, CommandRefusal::OutOfRange(Range::Lines), out);
     }
     write_lines(
         labels,

@@ -10,7 +10,7 @@ ghost use Rattle.tm_debug.specs.Session.{AnswerStopped, BackAnswer, Ends, IsBack
 
 use crate::interruption::{Interruption, answer_result};
 use crate::state::SessionState;
-use debug_command::{Range, Refusal, refuse};
+use debug_command::{CommandRefusal, Range, refuse};
 use itoa::Buffer;
 use std::alloc::{AllocError, Global};
 use text_out::page::push;
@@ -18,8 +18,8 @@ use text_out::text_line::TextLine;
 use text_out::{Out, WriteFault};
 use tm_hist::{Board, first_steps};
 
-// The number behind that of the core that was stepped last.
-fn next_behind(board: &Board) -> u8
+/// The number behind that of the core that was stepped last.
+pub fn next_behind(board: &Board) -> u8
     ensures { result ≡ next_behind board.now.history }
 {
     let history = board.history();
@@ -36,8 +36,7 @@ fn take_back(alloc: Global, state: &mut SessionState, count: u64) -> Result<(), 
     ensures err { OnErr result (value_of state.new ≡ value_of state.old) }
 {
     let left = state.board.made() - count;
-    // A board that was made has limits within their ranges, and its history cores of its program: what is refused is
-    // memory.
+    // A board that was made has limits within their ranges: what is refused is memory.
     let Ok(first) = first_steps(alloc, &state.board, left) else {
         return Err(AllocError);
     };
@@ -69,7 +68,7 @@ pub fn back<O: Out>(
 {
     let made = state.board.made();
     if count < 1 || count > made {
-        return answer_result(refuse(state.manner, Refusal::OutOfRange(Range::Made), out));
+        return answer_result(refuse(state.manner, CommandRefusal::OutOfRange(Range::Made), out));
     }
     match take_back(alloc, state, count) {
         Ok(()) => answer_result(write_made(made - count, out)),

@@ -25,6 +25,7 @@ mod state;
 mod told;
 mod why;
 
+pub use back::next_behind;
 pub use input::{FromReader, In};
 pub use session::{Session, SessionFault, serve, serve_in};
-pub use state::MOST_BREAKPOINTS;
+pub use state::{MOST_BREAKPOINTS, is_stopped};

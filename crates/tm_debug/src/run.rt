@@ -13,7 +13,7 @@ ghost use Rattle.tm_debug.specs.Session.{value_of};
 use crate::answer::end_run;
 use crate::state::{RunCheck, SessionState, Way};
 use crate::told::{told_step, write_told};
-use debug_command::{Range, Refusal, refuse};
+use debug_command::{CommandRefusal, Range, refuse};
 use text_out::{Out, WriteFault};
 use tm_model::Pick;
 
@@ -71,6 +71,6 @@ pub fn run<O: Out>(
     if (1..=100_000).contains(&count) {
         run_steps(state, way, count, out)
     } else {
-        refuse(state.manner, Refusal::OutOfRange(Range::Steps), out)
+        refuse(state.manner, CommandRefusal::OutOfRange(Range::Steps), out)
     }
 }

@@ -25,10 +25,13 @@ use crate::run::run;
 use crate::sets::sets;
 use crate::state::{SessionState, Way};
 use crate::why::why;
-use debug_command::{Command, Manner, Names, Refusal, Symbol, read_command, refuse, split_word};
+use debug_command::{
+    CommandRefusal, DebugCommand, Manner, Names, read_command, refuse, split_word,
+};
 use std::alloc::Global;
 use std::fmt;
 use std::sync::Wait;
+use symbols::Symbol;
 use text_out::{Out, WriteFault};
 use thiserror::Error;
 use tm_hist::Board;
@@ -94,9 +97,9 @@ pub enum Request {
     /// Nothing: the line is blank.
     Nothing,
     /// It is refused.
-    Refuse(Refusal),
+    Refuse(CommandRefusal),
     /// A command, and not that to leave.
-    Do(Command),
+    Do(DebugCommand),
 }
 
 // What the bytes of a line request, by these symbols.
@@ -105,14 +108,14 @@ fn text_request(symbols: &[Symbol], line: &[u8]) -> Request
     ensures { result ≡ request_of symbols.now line.now }
 {
     if line.len() > MOST_BYTES {
-        return Request::Refuse(Refusal::LongLine);
+        return Request::Refuse(CommandRefusal::LongLine);
     }
     let (word, _) = split_word(line);
     if word.is_empty() {
         return Request::Nothing;
     }
     match read_command(symbols, line) {
-        Ok(Command::Quit) => Request::Leave,
+        Ok(DebugCommand::Quit) => Request::Leave,
         Ok(command) => Request::Do(command),
         Err(refusal) => Request::Refuse(refusal),
     }
@@ -122,7 +125,7 @@ fn text_request(symbols: &[Symbol], line: &[u8]) -> Request
 fn act<O: Out>(
     alloc: Global,
     state: &mut SessionState,
-    command: Command,
+    command: DebugCommand,
     out: &mut O,
 ) -> Result<(), Interruption>
     ensures answer { Ends (Answers command (value_of state.old)) (AnswersBroken command (value_of state.old))
@@ -130,23 +133,23 @@ fn act<O: Out>(
     ensures memory { result ≡ Err Interruption.NoMemory → TakesMemory command }
 {
     match command {
-        Command::Step(core, event) => answer_result(step(state, core, event, out)),
-        Command::Run(count) => answer_result(run(state, Way::InTurn, count, out)),
-        Command::Next(count) => answer_result(run(state, Way::AlongPlan, count, out)),
-        Command::Back(count) => back(alloc, state, count, out),
-        Command::Break(address) => answer_result(set_breakpoint(state, address, out)),
-        Command::Clear(address) => answer_result(clear_breakpoint(state, address, out)),
-        Command::Regs(core) => answer_result(regs(state, core, out)),
-        Command::Mem(at, count) => answer_result(mem(
+        DebugCommand::Step(core, event) => answer_result(step(state, core, event, out)),
+        DebugCommand::Run(count) => answer_result(run(state, Way::InTurn, count, out)),
+        DebugCommand::Next(count) => answer_result(run(state, Way::AlongPlan, count, out)),
+        DebugCommand::Back(count) => back(alloc, state, count, out),
+        DebugCommand::Break(address) => answer_result(set_breakpoint(state, address, out)),
+        DebugCommand::Clear(address) => answer_result(clear_breakpoint(state, address, out)),
+        DebugCommand::Regs(core) => answer_result(regs(state, core, out)),
+        DebugCommand::Mem(at, count) => answer_result(mem(
             state.manner,
             state.board.machine(),
             at,
             count,
             out,
         )),
-        Command::Sets(core) => sets(alloc, state, core, out),
-        Command::Why(core) => why(alloc, state, core, out),
-        Command::List(at, count) => answer_result(list(
+        DebugCommand::Sets(core) => sets(alloc, state, core, out),
+        DebugCommand::Why(core) => why(alloc, state, core, out),
+        DebugCommand::List(at, count) => answer_result(list(
             state.manner,
             state.told_labels(),
             state.board.program(),
@@ -154,8 +157,8 @@ fn act<O: Out>(
             count,
             out,
         )),
-        Command::Help => answer_result(help(out)),
-        Command::Quit => answer_result(part(out)),
+        DebugCommand::Help => answer_result(help(out)),
+        DebugCommand::Quit => answer_result(part(out)),
     }
 }
 
@@ -214,7 +217,7 @@ fn line_request(state: &SessionState, line: &Line) -> Request
     match line {
         Line::End => Request::Leave,
         Line::Text(row) => text_request(state.names.symbols.as_slice(), row.as_slice()),
-        Line::Long => Request::Refuse(Refusal::LongLine),
+        Line::Long => Request::Refuse(CommandRefusal::LongLine),
     }
 }
 

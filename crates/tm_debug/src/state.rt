@@ -4,17 +4,16 @@
 //! there is room for the step, and whether the core is at a breakpoint. [`SessionState::step`] asks nothing of
 //! this, as for a step that was requested by itself, and notes whose turn is next. Nothing is read or written here.
 
-ghost use Rattle.std.specs.Prelude.{◌≡◌, ◌↔◌, ℕ, ◌+◌, ◌<◌, ◌≤◌, ◌^◌, ◌++◌, ◌∷◌, [], Err, IfOk, IfSome, OnErr, Some};
-ghost use Rattle.std.specs.Prelude.{is_some};
-ghost use Rattle.std.specs.Prelude.{length};
-ghost use Rattle.tm_hist.specs.Board.{IsFull, IsOwedNext, SameBoard, stop_shown};
+ghost use Rattle.std.specs.Prelude.{◌≡◌, ◌↔◌, ℕ, ◌+◌, ◌<◌, ◌≤◌, ◌^◌, Err, IfOk, IfSome, OnErr, Some, is_some, length};
+ghost use Rattle.tm_hist.specs.Board.{IsFull, stop_shown};
 ghost use Rattle.tm_hist.specs.Machine.{shown_regs, shown_state};
 ghost use Rattle.tm_debug.specs.Session.{IsStep, is_midway, is_stopped, next_running, pick_check, plan_check};
 ghost use Rattle.tm_debug.specs.Session.{run_check, running_from, start, start_in, told_labels, value_of};
 
 use arrayvec::ArrayVec;
-use debug_command::{Manner, Names, Symbol};
+use debug_command::{Manner, Names};
 use std::alloc::Global;
+use symbols::Symbol;
 use tm_hist::{Board, StepFault};
 use tm_model::{CoreState, Outcome, Pick};
 
@@ -59,19 +58,8 @@ pub enum RunCheck {
     Go(Pick),
 }
 
-/// How many cores there are.
-pub fn core_count(board: &Board) -> u8
-    ensures program { result ≡ length board.now.program.entries }
-    ensures machine { result ≡ length board.now.machine.views }
-    ensures some { 0 < result }
-    ensures most { result ≤ 64 }
-{
-    let _count = board.program().cores();
-    board.cores()
-}
-
-// Whether a core has stopped.
-fn is_stopped(board: &Board, core: u8) -> bool
+/// Whether a core has stopped.
+pub fn is_stopped(board: &Board, core: u8) -> bool
     requires { core < length board.now.machine.views }
     ensures { result ≡ is_stopped board.now core }
 {
@@ -91,27 +79,11 @@ fn running_from(board: &Board, core: u32, left: u8) -> Option<u8>
     if left == 0 {
         return None;
     }
-    let found = (core % u32::from(core_count(board))) as u8;
+    let found = (core % u32::from(board.cores())) as u8;
     if is_stopped(board, found) {
         running_from(board, core + 1, left - 1)
     } else {
         Some(found)
-    }
-}
-
-// One step of a pick's core, under its event where it has one.
-fn step_by(board: &mut Board, pick: Pick) -> Result<Outcome, StepFault>
-    ensures none { result ≡ Err StepFault.NoSuchCore ↔ (length board.old.program.entries ≤ pick.core) }
-    ensures full { result ≡ Err StepFault.LimitReached
-        ↔ ((pick.core < length board.old.program.entries) × IsFull board.old) }
-    ensures same { SameBoard board.old board.new }
-    ensures ok { IfOk result (λ outcome. board.new.history ≡ board.old.history ++ (pick.core, outcome) ∷ []) }
-    ensures under { IfOk result (λ outcome. IsOwedNext pick.event board.old pick.core outcome) }
-    ensures err { OnErr result (board.new ≡ board.old) }
-{
-    match pick.event {
-        None => board.step(pick.core),
-        Some(event) => board.step_under(pick.core, event),
     }
 }
 
@@ -161,7 +133,7 @@ impl SessionState {
         ensures exists { IfSome result (λ c. c < length self.now.board.machine.views) }
         ensures known { IfSome result (λ c. c < length self.now.board.program.entries) }
     {
-        running_from(&self.board, u32::from(self.next), core_count(&self.board))
+        running_from(&self.board, u32::from(self.next), self.board.cores())
     }
 
     // The address that a core shows.
@@ -211,7 +183,7 @@ impl SessionState {
         ensures room { (go : Pick) → result ≡ RunCheck.Go go → (go.core < length self.now.board.program.entries)
             × (IsFull self.now.board → ⊥) }
     {
-        let count = core_count(&self.board);
+        let count = self.board.cores();
         if pick.core < count {
             self.check_pick(pick, first)
         } else {
@@ -247,8 +219,8 @@ impl SessionState {
         ensures ok { IfOk result (λ outcome. IsStep (value_of self.old) pick outcome (value_of self.new)) }
         ensures err { OnErr result (value_of self.new ≡ value_of self.old) }
     {
-        let _count = core_count(&self.board);
-        let outcome = step_by(&mut self.board, pick)?;
+        let _count = self.board.cores();
+        let outcome = self.board.step_by(pick)?;
         self.board.is_run();
         self.next = pick.core + 1;
         Ok(outcome)

@@ -10,8 +10,9 @@ ghost use Rattle.tm_hist.specs.Board.{IsFull};
 ghost use Rattle.tm_trace.specs.Deeds.{IsBefore, IsDeed};
 ghost use Rattle.tm_debug.specs.Session.{IsStep, IsTold, told_line, value_of};
 
-use crate::state::{SessionState, core_count};
-use debug_command::{Manner, Symbol};
+use crate::state::SessionState;
+use debug_command::Manner;
+use symbols::Symbol;
 use text_out::{Out, WriteFault};
 use tm_hist::{StepFault, write_outcome};
 use tm_model::{Outcome, Pick};
@@ -82,7 +83,7 @@ fn before_step(state: &SessionState, core: u8) -> Option<Before>
     ensures before { IfSome result (λ before.
         IsBefore state.now.board.machine state.now.board.program core before) }
 {
-    if core < core_count(&state.board) {
+    if core < state.board.cores() {
         Before::of(state.board.machine(), state.board.program(), core)
     } else {
         None
@@ -94,7 +95,7 @@ fn deed_behind(state: &SessionState, before: &Before, core: u8, outcome: &Outcom
     requires { core < length state.now.board.program.entries }
     ensures { IsDeed before.now state.now.board.machine core outcome.now result }
 {
-    let _count = core_count(&state.board);
+    let _count = state.board.cores();
     before.deed(state.board.machine(), core, outcome)
 }
 

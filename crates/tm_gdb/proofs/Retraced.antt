@@ -1,40 +1,15 @@
 -- Steps of a history, made once more and taken back.
-use Rattle.std.proofs.Common.{◌≡◌, ℕ, ◌+◌, ◌-◌, ◌<◌, ◌≤◌, suc, Option, Some, None, List, ◌⊎◌, inl, inr, refl, sym}
-use Rattle.std.proofs.Common.{◌∙◌, subst, arith}
+use Rattle.std.proofs.Common.{◌≡◌, ℕ, ◌+◌, ◌-◌, ◌<◌, suc, Option, Some, None, List, inl, inr, sym, ◌∙◌, subst, arith}
 use Rattle.std.specs.List.{slice_get}
 use Rattle.std.proofs.Math.Nat.{eq-or-lt_of_le}
-use Rattle.tm_hist.specs.Back.{IsFirst}
-use Rattle.tm_hist.proofs.Owed.{first_more, told_at}
-use Rattle.tm_hist.specs.Board.{IsHistory, IsOwedNext, ShownBoard}
-use Rattle.tm_model.specs.declared.outcome.Event.{Event}
+use Rattle.tm_hist.specs.Board.{ShownBoard}
 use Rattle.tm_model.specs.declared.outcome.Outcome.{Outcome}
-use Rattle.tm_model.specs.declared.outcome.Pick.{Pick}
-use Rattle.tm_model.specs.Runs.{picks_of}
 use Rattle.tm_gdb.specs.declared.back.Place.{Place}
 use Rattle.tm_gdb.specs.declared.stop.Stop.{Stop}
 use Rattle.tm_gdb.specs.declared.stop.Stop.TheVariants.{Begin}
 use Rattle.tm_gdb.specs.Back.{EndsBack, HasNoneFrom, IsAgain, IsLastOf, back_told}
 use Rattle.tm_gdb.specs.Back.EndsBack.{begins, ends, goes_on}
-use Rattle.tm_gdb.specs.Moves.{IsOneMore}
 use Rattle.tm_gdb.specs.Values.{TargetValue, moved_core}
-
--- a step of a history that was made once more
-pub again_of : (whole before after : ShownBoard) (made : ℕ) (pick : Pick) (outcome : Outcome)
-    → slice_get (picks_of whole.history) made ≡ Some pick → IsHistory whole → IsHistory before
-    → IsFirst whole made before
-    → IsOneMore pick.event before pick.core outcome after → IsAgain whole made pick.core before after
-again_of whole before after made pick outcome at law before_law so_far more =
-    let told = told_at whole.history made pick at in
-    let owed = subst (λ (e : Option Event). IsOwedNext e before pick.core outcome) (sym told.event) more.owed in
-    record {
-      outcome = told.outcome;
-      own = told.at;
-      before_is = so_far;
-      after_is = first_more whole before after made pick.core told.outcome outcome told.at law so_far more.same
-          more.history owed;
-      before_law = before_law;
-      after_law = more.law;
-    }
 
 -- with no step made a run back ends at the beginning
 pub begins_at : (from : TargetValue) (core : ℕ) → core ≡ moved_core from

@@ -16,7 +16,7 @@ use crate::monitor::monitor_text;
 use crate::stop::push_stop;
 use crate::target::Target;
 use crate::tell::{tell_description, tell_memory, tell_register, tell_registers, tell_threads};
-use crate::turns::{core_count, names_stranger};
+use crate::turns::names_stranger;
 use gdb_packet::{Bytes, Command, Monitor, Move, Point, PointKind, Question, Setting, Span};
 use gdb_target::{push_thread, push_threads};
 use std::alloc::{AllocError, Global};
@@ -201,7 +201,7 @@ fn carry(
     ensures err { OnErr result (value_of target.new ≡ value_of target.old) }
     ensures same { SameBoard target.old.board target.new.board }
 {
-    if is_refused(asked, core_count(&target.board)) {
+    if is_refused(asked, target.board.cores()) {
         push(row, b"E01");
         Ok(())
     } else {

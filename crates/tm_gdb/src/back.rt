@@ -4,26 +4,22 @@
 //! when it is there. A run back first makes the whole history so, to find the latest step that a point stops, and
 //! then the steps before that one.
 
-ghost use Rattle.std.specs.Prelude.{◌≡◌, ◌+◌, ◌<◌, ◌≤◌, ◌==◌, Err, IfNone, IfOk, IfSome, OnErr, OnOk, Some, false};
+ghost use Rattle.std.specs.Prelude.{◌≡◌, ◌+◌, ◌<◌, ◌==◌, Err, IfNone, IfOk, IfSome, OnErr, OnOk, Some, false};
 ghost use Rattle.std.specs.Prelude.{length, true};
 ghost use Rattle.std.specs.List.{slice_get};
 ghost use Rattle.tm_hist.specs.Back.{IsFirst};
-ghost use Rattle.tm_hist.specs.Board.{IsFull, IsHistory, IsOwedNext, SameBoard};
+ghost use Rattle.tm_hist.specs.Board.{IsHistory, SameBoard};
 ghost use Rattle.tm_hist.specs.History.{pairs_of};
 ghost use Rattle.tm_model.specs.declared.outcome.Outcome.{Outcome};
 ghost use Rattle.tm_gdb.specs.Back.{EndsBack, HasNoneFrom, IsAgain, IsLastOf, RunsBack, StepsBack, TakesStepBack};
 ghost use Rattle.tm_gdb.specs.Back.{back_told, excused_at, told_back, watch_or_step};
-ghost use Rattle.tm_model.specs.Runs.{picks_of};
 ghost use Rattle.tm_gdb.specs.Values.{moved_core, value_of};
 
-use crate::moves::make;
 use crate::points::first_changed;
 use crate::stop::Stop;
 use crate::target::Target;
-use crate::turns::core_count;
 use std::alloc::{AllocError, Global};
 use tm_hist::{Board, History, first_steps};
-use tm_model::Pick;
 
 /// Where a run back ends: with so many steps still made, at this core, and why.
 #[derive(Clone, Copy, Debug)]
@@ -73,8 +69,7 @@ fn first(alloc: Global, board: &Board, count: u64) -> Result<Board, AllocError>
             first.is_run();
             Ok(first)
         }
-        // A board that was made has limits within their ranges, and its history cores of its program: what is refused
-        // is memory.
+        // A board that was made has limits within their ranges: what is refused is memory.
         Err(_) => Err(AllocError),
     }
 }
@@ -109,20 +104,6 @@ fn excused_at(core: u8, stop: Stop) -> Option<u8>
     }
 }
 
-// Makes the step of a history that is behind the steps of a board, whose own are the first of it.
-fn make_again(whole: &Board, board: &mut Board, pick: Pick, made: u64)
-    requires exists { pick.core < length whole.now.program.entries }
-    requires within { made < length whole.now.history }
-    requires pick { slice_get (picks_of whole.now.history) made ≡ Some pick }
-    requires law { IsHistory whole.now }
-    requires before { IsHistory board.old }
-    requires so_far { IsFirst whole.now made board.old }
-    ensures { IsAgain whole.now made pick.core board.old board.new }
-{
-    let _room = whole.made();
-    make(board, pick);
-}
-
 impl Target {
     // Stands on the board before the last step of a core.
     fn stand_before(&mut self, board: Board, core: u8, place: u64)
@@ -133,11 +114,11 @@ impl Target {
         ensures back { TakesStepBack core (value_of self.old) place (value_of self.new) }
         ensures same { SameBoard self.old.board self.new.board }
     {
-        let _cores = core_count(&self.board);
+        let _cores = self.board.cores();
         // What the core sees behind its step, while there is a board that shows it.
         let sights = self.points.sights(self.board.machine(), core);
         self.board = board;
-        let _cores = core_count(&self.board);
+        let _cores = self.board.cores();
         let changed = first_changed(sights.as_slice(), self.board.machine(), core);
         self.selected = core;
         self.excused = None;
@@ -180,49 +161,41 @@ impl Target {
     }
 
     // What ends a run back at the step of a core, which is made once more.
-    fn told_again(&self, board: &mut Board, pick: Pick, made: u64) -> Option<Stop>
-        requires exists { pick.core < length self.now.board.program.entries }
+    fn told_again(&self, board: &mut Board, core: u8, made: u64) -> Option<Stop>
+        requires exists { core < length self.now.board.program.entries }
+        requires own { (outcome : Outcome) × (slice_get self.now.board.history made ≡ Some (core, outcome)) }
         requires within { made < length self.now.board.history }
-        requires pick { slice_get (picks_of self.now.board.history) made ≡ Some pick }
-        requires law { IsHistory self.now.board }
         requires before { IsHistory board.old }
         requires so_far { IsFirst self.now.board made board.old }
-        ensures again { IsAgain self.now.board made pick.core board.old board.new }
-        ensures told { result ≡ back_told (value_of self.now) pick.core board.old board.new }
+        ensures again { IsAgain self.now.board made core board.old board.new }
+        ensures told { result ≡ back_told (value_of self.now) core board.old board.new }
     {
-        let _cores = core_count(board);
-        let stands = self.points.stands(board.machine(), pick.core);
-        let sights = self.points.sights(board.machine(), pick.core);
-        make_again(&self.board, board, pick, made);
-        let _cores = core_count(board);
-        let changed = first_changed(sights.as_slice(), board.machine(), pick.core);
+        let _cores = board.cores();
+        let stands = self.points.stands(board.machine(), core);
+        let sights = self.points.sights(board.machine(), core);
+        board.step_again(&self.board, made);
+        board.is_run();
+        let _cores = board.cores();
+        let changed = first_changed(sights.as_slice(), board.machine(), core);
         watch_or_break(changed, stands)
     }
 
     // Where a run back ends behind one step more, which is made once more.
-    fn again(&self, board: &mut Board, made: u64, place: Place) -> Result<Place, AllocError>
+    fn again(&self, board: &mut Board, made: u64, place: Place) -> Place
         requires within { made < length self.now.board.history }
-        requires law { IsHistory self.now.board }
         requires before { IsHistory board.old }
         requires so_far { IsFirst self.now.board made board.old }
         requires ends { EndsBack (value_of self.now) made place }
-        ensures ends { IfOk result (EndsBack (value_of self.now) (made + 1)) }
-        ensures first { OnOk result (IsFirst self.now.board (made + 1) board.new) }
-        ensures law { OnOk result (IsHistory board.new) }
+        ensures ends { EndsBack (value_of self.now) (made + 1) result }
+        ensures first { IsFirst self.now.board (made + 1) board.new }
+        ensures law { IsHistory board.new }
     {
-        let Some(pick) = self.board.history().pick_at(made as usize) else {
+        let Some((core, _outcome)) = self.board.step_at(made as usize) else {
             unreachable!()
         };
-        if pick.core >= core_count(&self.board) {
-            return Err(AllocError);
-        }
-        match self.told_again(board, pick, made) {
-            Some(stop) => Ok(Place {
-                made,
-                core: pick.core,
-                stop,
-            }),
-            None => Ok(place),
+        match self.told_again(board, core, made) {
+            Some(stop) => Place { made, core, stop },
+            None => place,
         }
     }
 
@@ -230,7 +203,6 @@ impl Target {
     fn last_place(&self, alloc: Global) -> Result<Place, AllocError>
         ensures { IfOk result (EndsBack (value_of self.now) (length self.now.board.history)) }
     {
-        self.board.is_run();
         let mut board = first(alloc, &self.board, 0)?;
         let mut place = Place {
             made: 0,
@@ -239,7 +211,7 @@ impl Target {
         };
         'steps: for made in 0..self.board.made() {
             // A later place takes that of an earlier one: backwards it is met first.
-            place = self.again(&mut board, made, place)?;
+            place = self.again(&mut board, made, place);
         }
         Ok(place)
     }

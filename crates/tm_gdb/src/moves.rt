@@ -4,8 +4,8 @@
 //! named, and looks again behind it. [`Target::resume`] lets one core step, if one is to, and no other then;
 //! otherwise those go on that are to (`run`). Whether actions name threads that there are is asked in `answer`.
 
-ghost use Rattle.std.specs.Prelude.{◌≡◌, ◌↔◌, ◌++◌, ◌∷◌, [], ◌<◌, ◌≤◌, Err, IfOk, IfSome, OnErr, Some, length, true};
-ghost use Rattle.tm_hist.specs.Board.{IsFull, IsOwedNext, SameBoard};
+ghost use Rattle.std.specs.Prelude.{◌≡◌, ◌<◌, IfSome, length, true};
+ghost use Rattle.tm_hist.specs.Board.{IsFull, SameBoard};
 ghost use Rattle.tm_gdb.specs.Moves.{Continues, IsOneMore, IsStep, IsStepAlone, Resumes, StepsAlone, can_step};
 ghost use Rattle.tm_gdb.specs.Moves.{continues_by};
 ghost use Rattle.tm_gdb.specs.Moves.{excused_behind, goers_of, selected_goers, stepping_core, told_by};
@@ -14,40 +14,24 @@ ghost use Rattle.tm_gdb.specs.Values.{cores_of, moved_core, value_of};
 use crate::points::first_changed;
 use crate::stop::{Stop, stop_of};
 use crate::target::Target;
-use crate::turns::{Goers, core_count, goers_of, is_stopped, stepping_from, steps};
+use crate::turns::{Goers, goers_of, stepping_from, steps};
 use gdb_packet::Actions;
-use tm_hist::{Board, StepFault};
+use tm_debug::is_stopped;
+use tm_hist::Board;
 use tm_model::{Outcome, Pick};
 
-// The step that a pick tells of.
-fn step_by(board: &mut Board, pick: Pick) -> Result<Outcome, StepFault>
-    ensures none { result ≡ Err StepFault.NoSuchCore ↔ (length board.old.program.entries ≤ pick.core) }
-    ensures full { result ≡ Err StepFault.LimitReached
-        ↔ ((pick.core < length board.old.program.entries) × IsFull board.old) }
-    ensures same { SameBoard board.old board.new }
-    ensures ok { IfOk result (λ outcome. board.new.history ≡ board.old.history ++ (pick.core, outcome) ∷ []) }
-    ensures owed { IfOk result (λ outcome. IsOwedNext pick.event board.old pick.core outcome) }
-    ensures err { OnErr result (board.new ≡ board.old) }
-{
-    match pick.event {
-        Some(event) => board.step_under(pick.core, event),
-        None => board.step(pick.core),
-    }
-}
-
-/// The step that a pick tells of, of a core that there is and for which there is room.
-pub fn make(board: &mut Board, pick: Pick) -> Outcome
+// The step that a pick tells of, of a core that there is and for which there is room.
+fn make(board: &mut Board, pick: Pick) -> Outcome
     requires exists { pick.core < length board.old.program.entries }
     requires room { IsFull board.old → ⊥ }
     ensures { IsOneMore pick.event board.old pick.core result board.new }
 {
-    match step_by(board, pick) {
+    match board.step_by(pick) {
         Ok(outcome) => {
             board.is_run();
             outcome
         }
-        Err(StepFault::NoSuchCore) => unreachable!(),
-        Err(StepFault::LimitReached) => unreachable!(),
+        Err(_) => unreachable!(),
     }
 }
 
@@ -78,7 +62,7 @@ impl Target {
         requires room { IsFull self.old.board → ⊥ }
         ensures { IsStep (value_of self.old) pick result (value_of self.new) }
     {
-        let _cores = core_count(&self.board);
+        let _cores = self.board.cores();
         let sights = self.points.sights(self.board.machine(), pick.core);
         let under = Pick {
             core: pick.core,
@@ -88,7 +72,7 @@ impl Target {
         self.selected = pick.core;
         self.excused = excused_behind(self.excused, pick.core);
         self.event = None;
-        let _cores = core_count(&self.board);
+        let _cores = self.board.cores();
         let changed = first_changed(sights.as_slice(), self.board.machine(), pick.core);
         told_by(changed, outcome)
     }
@@ -119,7 +103,7 @@ impl Target {
         ensures step { StepsAlone core (value_of self.old) (value_of self.new) }
         ensures same { SameBoard self.old.board self.new.board }
     {
-        let _cores = core_count(&self.board);
+        let _cores = self.board.cores();
         if self.can_step(core) {
             self.step_once(core);
         } else {
@@ -137,7 +121,7 @@ impl Target {
         if steps(actions, own) {
             Some(own)
         } else {
-            stepping_from(actions, 0, core_count(&self.board))
+            stepping_from(actions, 0, self.board.cores())
         }
     }
 
@@ -147,7 +131,7 @@ impl Target {
             (value_of self.new) }
         ensures same { SameBoard self.old.board self.new.board }
     {
-        match goers_of(actions, core_count(&self.board)) {
+        match goers_of(actions, self.board.cores()) {
             Some(goers) => self.go_on(&goers),
             None => {}
         }

@@ -12,7 +12,7 @@ ghost use Rattle.tm_gdb.specs.Values.{TargetValue, value_of};
 
 use crate::stop::Stop;
 use crate::target::Target;
-use crate::turns::{Goers, core_count, turn_pick};
+use crate::turns::{Goers, turn_pick};
 use tm_hist::Board;
 use tm_model::Pick;
 
@@ -32,7 +32,7 @@ fn known_pick(board: &Board, pick: Pick) -> Option<Pick>
     ensures pick { result ≡ known_pick board.now (Some pick) }
     ensures known { IfSome result (λ pick. pick.core < length board.now.program.entries) }
 {
-    if pick.core < core_count(board) {
+    if pick.core < board.cores() {
         Some(pick)
     } else {
         None
@@ -81,7 +81,7 @@ impl Target {
         requires { core < length self.now.board.program.entries }
         ensures { result ≡ is_to_tell (value_of self.now) core }
     {
-        let _cores = core_count(&self.board);
+        let _cores = self.board.cores();
         !is_excused(self.excused, core) && self.points.stands(self.board.machine(), core)
     }
 
@@ -123,7 +123,7 @@ impl Target {
     {
         let core = self.core();
         if !goers.goes(core) {
-            self.selected = goers.first_from(0, core_count(&self.board), core);
+            self.selected = goers.first_from(0, self.board.cores(), core);
         } else {
             self.selected = core;
         }

@@ -5,14 +5,14 @@
 
 ghost use Rattle.std.specs.Prelude.{◌≡◌, ◌+◌, ◌^◌, ◌<◌, ◌≤◌, IfSome, length};
 ghost use Rattle.gdb_packet.specs.Actions.{action_of};
-ghost use Rattle.tm_debug.specs.Session.{is_stopped, next_behind};
 ghost use Rattle.tm_gdb.specs.Moves.{all_continue, continues, goer_from, goers_of, goes, going_from, is_continue};
 ghost use Rattle.tm_gdb.specs.Moves.{is_step, is_stranger, names_stranger};
 ghost use Rattle.tm_gdb.specs.Moves.{plainly, some_continue, stepping_from, steps, turn_pick};
 
 use gdb_packet::{Action, Actions, ThreadAction};
+use tm_debug::{is_stopped, next_behind};
 use tm_hist::Board;
-use tm_model::{CoreState, Pick};
+use tm_model::Pick;
 
 /// The cores that a run steps.
 #[derive(Clone, Copy, Debug)]
@@ -23,28 +23,6 @@ pub enum Goers {
     One(u8),
     /// Those that these actions let go on, round by round.
     Those(Actions),
-}
-
-/// How many cores there are.
-pub fn core_count(board: &Board) -> u8
-    ensures program { result ≡ length board.now.program.entries }
-    ensures machine { result ≡ length board.now.machine.views }
-    ensures some { 0 < result }
-    ensures most { result ≤ 64 }
-{
-    let _count = board.machine().cores();
-    board.cores()
-}
-
-/// Whether a core has stopped.
-pub fn is_stopped(board: &Board, core: u8) -> bool
-    requires { core < length board.now.machine.views }
-    ensures { result ≡ is_stopped board.now core }
-{
-    match board.machine().state(core) {
-        Ok(state) => matches!(state, CoreState::Stopped(_)),
-        Err(_) => unreachable!(),
-    }
 }
 
 fn is_step(action: Option<Action>) -> bool
@@ -183,22 +161,11 @@ fn going_from(goers: &Goers, board: &Board, core: u32, left: u8) -> Option<u8>
     if left == 0 {
         return None;
     }
-    let found = (core % u32::from(core_count(board))) as u8;
+    let found = (core % u32::from(board.cores())) as u8;
     if goers.goes(found) && !is_stopped(board, found) {
         Some(found)
     } else {
         going_from(goers, board, core + 1, left - 1)
-    }
-}
-
-// The number behind that of the core that was stepped last.
-fn next_behind(board: &Board) -> u8
-    ensures { result ≡ next_behind board.now.history }
-{
-    let history = board.history();
-    match history.get(history.len().saturating_sub(1)) {
-        Some((core, _outcome)) => core.wrapping_add(1),
-        None => 0,
     }
 }
 
@@ -217,10 +184,5 @@ pub fn turn_pick(goers: &Goers, board: &Board) -> Option<Pick>
     ensures pick { result ≡ turn_pick goers.now board.now }
     ensures known { IfSome result (λ pick. pick.core < length board.now.program.entries) }
 {
-    plainly(going_from(
-        goers,
-        board,
-        u32::from(next_behind(board)),
-        core_count(board),
-    ))
+    plainly(going_from(goers, board, u32::from(next_behind(board)), board.cores()))
 }

@@ -1,14 +1,10 @@
 -- The events of a run are of the picker's kinds.
-use Rattle.std.proofs.Common.{◌≡◌, ◌⊎◌, inl, inr, sym, subst, ap, ◌∙◌, ℕ, List, [], ◌∷◌, ◌++◌, Option, Some, None}
+use Rattle.std.proofs.Common.{◌≡◌, ◌⊎◌, inl, inr, sym, subst, ap, ◌∙◌, ℕ, List, [], ◌∷◌, ◌++◌, Option, None}
 use Rattle.std.proofs.lemmas.List.{map-append}
 use Rattle.std.proofs.lemmas.List.Elements.{All-nil, All-push}
 use Rattle.tm_model.specs.declared.outcome.Event.{Event}
-use Rattle.tm_model.specs.declared.outcome.Event.TheVariants as event
 use Rattle.tm_model.specs.declared.outcome.Outcome.{Outcome}
 use Rattle.tm_model.specs.declared.outcome.Pick.{Pick}
-use Rattle.tm_model.specs.declared.outcome.CoreState.{CoreState}
-use Rattle.tm_model.specs.declared.outcome.CoreState.TheVariants.{Running, Mid, Open, Condemned, Stopped}
-use Rattle.tm_hist.specs.Board.{TellsAsShown}
 use Rattle.tm_model.specs.Runs.{event_told, pick_of, picks_of}
 use Rattle.tm_pick.specs.Kinds.{AreOfKinds, IsOfKinds}
 use Rattle.tm_pick.specs.declared.kinds.Kinds.{Kinds}
@@ -16,15 +12,7 @@ use Rattle.tm_pick.specs.declared.kinds.Kinds.{Kinds}
 abbrev OfKinds : Kinds → Pick → Type 0
 OfKinds kinds pick = IsOfKinds kinds pick.event
 
--- what a step under an event comes to tells of that event, or of none
-pub told_as_shown : (event : Event) (state : CoreState) (outcome : Outcome) → TellsAsShown event state outcome →
-    (event_told outcome ≡ None) ⊎ (event_told outcome ≡ Some event)
-told_as_shown (event.Abort by) Running outcome h = inl h
-told_as_shown (event.Abort by) Mid outcome h = inl h
-told_as_shown (event.Abort by) (Open depth) outcome h = inr (ap event_told h)
-told_as_shown (event.Abort by) (Condemned depth) outcome h = inl h
-told_as_shown (event.Abort by) (Stopped stop) outcome h = inl h
-
+-- what an outcome tells of is of the kinds that its step's event is of
 told_of : (kinds : Kinds) (event told : Option Event) → (told ≡ None) ⊎ (told ≡ event) → IsOfKinds kinds event →
     IsOfKinds kinds told
 told_of kinds event told (inl none) h = subst (IsOfKinds kinds) (sym none) tt

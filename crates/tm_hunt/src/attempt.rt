@@ -5,8 +5,6 @@
 //! next run. [`usual_length`] makes a run that is not judged.
 
 ghost use Rattle.std.specs.Prelude.{◌≡◌, ◌≤◌, IfErr, IfOk};
-ghost use Rattle.tm_model.specs.Runs.{picks_of};
-ghost use Rattle.tm_hist.specs.History.{pairs_of};
 ghost use Rattle.tm_hunt.specs.declared.attempt.HuntFault.TheVariants.{Board as OfBoard, NoMemory};
 ghost use Rattle.tm_hunt.specs.Attempts.{ComesTo, IsAttempt, IsRefusal};
 ghost use Rattle.tm_hunt.specs.Hunt.{IsOver, IsTrialOf};
@@ -19,8 +17,7 @@ use crate::trial::Trial;
 use std::alloc::{AllocError, Global};
 use thiserror::Error;
 use tm_check::{first_violated, has_ended};
-use tm_hist::{Board, BoardFault, History};
-use tm_model::Pick;
+use tm_hist::{Board, BoardFault};
 use tm_pick::Picker;
 
 /// Why a search was not made to its end.
@@ -97,7 +94,7 @@ fn judged(alloc: Global, trial: &Trial<'_>, board: &Board) -> Result<Attempt, Hu
 {
     match first_violated(trial.checks, board) {
         Some(check) => {
-            let picks = picks_made(alloc, board.history())?;
+            let picks = board.history().picks(alloc)?;
             let front = picks.as_slice().len();
             Ok(Attempt::Failed(Failure {
                 picks,
@@ -108,15 +105,4 @@ fn judged(alloc: Global, trial: &Trial<'_>, board: &Board) -> Result<Attempt, Hu
         None if has_ended(board) => Ok(Attempt::Ended),
         None => Ok(Attempt::Cut),
     }
-}
-
-// The picks of the steps.
-fn picks_made(alloc: Global, history: History<'_>) -> Result<Vec<Pick>, AllocError>
-    ensures { IfOk result (λ picks. picks.items ≡ picks_of (pairs_of history.entry)) }
-{
-    let mut picks = Vec::with_capacity(alloc, history.len())?;
-    for index in 0..history.len() {
-        picks.push(history.pick_at(index).unwrap())?;
-    }
-    Ok(picks)
 }

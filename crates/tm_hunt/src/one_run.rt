@@ -5,7 +5,7 @@
 //! Whether the run failed is asked behind it, by `attempt`.
 
 ghost use Rattle.std.specs.Prelude.{◌≡◌, ◌≢◌, ◌↔◌, ◌<◌, ◌+◌, ◌++◌, ◌∷◌, ◌⊎◌, [], ℕ, All, Contains, IfErr, IfOk, IsTrue};
-ghost use Rattle.std.specs.Prelude.{None, Some, length};
+ghost use Rattle.std.specs.Prelude.{None, length};
 ghost use Rattle.tm_hist.specs.Board.{IsOwedNext, SameBoard};
 ghost use Rattle.tm_model.specs.Runs.{event_told, picks_of};
 ghost use Rattle.tm_rule.specs.declared.kinds.Stop.{Stop};
@@ -20,7 +20,7 @@ use crate::trial::Trial;
 use std::alloc::Global;
 use tm_check::{Check, first_violated};
 use tm_hist::{Board, BoardFault};
-use tm_model::{Event, Outcome, Pick};
+use tm_model::{Outcome, Pick};
 use tm_pick::Going;
 use tm_rule::Stop;
 
@@ -127,38 +127,7 @@ fn make_step(board: &mut Board, pick: Pick) -> Outcome
     ensures made { board.new.history ≡ board.old.history ++ (pick.core, result) ∷ [] }
     ensures told { (event_told result ≡ None) ⊎ (event_told result ≡ pick.event) }
 {
-    match pick.event {
-        None => step_alone(board, pick.core),
-        Some(event) => step_under(board, pick.core, event),
-    }
-}
-
-// As [`make_step`], under no event.
-fn step_alone(board: &mut Board, core: u8) -> Outcome
-    requires is_core { core < length board.old.program.entries }
-    requires room { length board.old.history < board.old.limit }
-    ensures same { SameBoard board.old board.new }
-    ensures owed { IsOwedNext None board.old core result }
-    ensures made { board.new.history ≡ board.old.history ++ (core, result) ∷ [] }
-    ensures told { event_told result ≡ None }
-{
-    match board.step(core) {
-        Ok(outcome) => outcome,
-        Err(_) => unreachable!(),
-    }
-}
-
-// As [`make_step`], under this event.
-#[tactic(auto, using(crate::proofs::Told::told_as_shown))]
-fn step_under(board: &mut Board, core: u8, event: Event) -> Outcome
-    requires is_core { core < length board.old.program.entries }
-    requires room { length board.old.history < board.old.limit }
-    ensures same { SameBoard board.old board.new }
-    ensures owed { IsOwedNext (Some event) board.old core result }
-    ensures made { board.new.history ≡ board.old.history ++ (core, result) ∷ [] }
-    ensures told { (event_told result ≡ None) ⊎ (event_told result ≡ Some event) }
-{
-    match board.step_under(core, event) {
+    match board.step_by(pick) {
         Ok(outcome) => outcome,
         Err(_) => unreachable!(),
     }

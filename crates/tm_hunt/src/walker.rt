@@ -13,7 +13,7 @@ ghost use Rattle.tm_hunt.specs.Cycle.{IsMachineOf, Makes};
 use crate::trial::Trial;
 use std::alloc::Global;
 use tm_core::{Machine, MachineFault};
-use tm_hist::BoardFault;
+use tm_hist::{BoardFault, event_of};
 use tm_model::{Event, Outcome, Pick};
 
 /// A machine of a trial's program, before its first step.
@@ -128,16 +128,6 @@ fn is_told(outcome: Outcome, event: Option<Event>) -> bool
     ensures { IsTrue result → event_told outcome ≡ event }
 {
     event_of(outcome) == event
-}
-
-// The event that an outcome tells of.
-fn event_of(outcome: Outcome) -> Option<Event>
-    ensures { result ≡ event_told outcome }
-{
-    match outcome {
-        Outcome::AbortedBy(by, _status) => Some(Event::Abort(by)),
-        _ => None,
-    }
 }
 
 /// Makes the steps of a list, as long as they come to be as it says. Answers whether all of them did.

@@ -5,10 +5,11 @@ use Rattle.std.specs.FinSet as set
 use Rattle.tm_core.specs.Theorem.{ShownMachine, view_at}
 use Rattle.tm_core.specs.Types.{Outcome}
 use Rattle.tm_model.specs.Runs.{is_aborted_by}
+use Rattle.tm_why.specs.Said.{IsSaidOf}
 use Rattle.tm_page.specs.declared.before.Before.{Before}
 use Rattle.tm_page.specs.Applied.{hit_on, is_listed, patched, stored_at}
 use Rattle.tm_page.specs.Before.{IsBefore}
-use Rattle.tm_page.specs.Difference.{IsDifference, IsHitSaid, addresses_told, byte_told}
+use Rattle.tm_page.specs.Difference.{IsDifference, addresses_told, byte_told}
 use Rattle.tm_page.specs.Shows.{IsAddress}
 use Rattle.tm_page.specs.Types.{Hit, PageDelta}
 
@@ -41,7 +42,7 @@ made_so start now before o kept delta b core outcome state registers reads write
           ∙ ap (λ t. set.contains (view_at now before.asked.core).writes line && not t) (b.writes line);
       stored = stored;
       hits = λ other below differs free.
-          subst (IsHitSaid start before.asked.core other)
+          subst (IsSaidOf start before.asked.core other)
           (sym (hits other ∙ ap (λ t. cond t none_made (get_or before.asked.hits other None)) free))
           (b.asked.hits other below differs);
       none = λ other came. hits other ∙ ap (λ t. cond t none_made (get_or before.asked.hits other None)) came;

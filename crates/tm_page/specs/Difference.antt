@@ -6,13 +6,14 @@ use Rattle.tm_core.specs.Seen.{byte_seen}
 use Rattle.tm_core.specs.Theorem.{SameMachine, ShownMachine, StandsFor, TakesStepUnder, machine_setting, view_at}
 use Rattle.tm_model.specs.Access.{loaded_addresses}
 use Rattle.tm_model.specs.declared.outcome.Event.{Event}
-use Rattle.tm_model.specs.Explained.{IsHitTold, IsReachTold}
+use Rattle.tm_model.specs.Explained.{IsReachTold}
 use Rattle.tm_model.specs.Runs.{is_aborted_by}
 use Rattle.tm_model.specs.State.{State}
 use Rattle.tm_model.specs.declared.explain.Reach.{Reach}
+use Rattle.tm_why.specs.Said.{IsSaidOf}
 use Rattle.tm_page.specs.Applied.{hit_on, is_listed, patched, stored_at}
 use Rattle.tm_page.specs.Shows.{IsAddress, IsDelta, private_byte}
-use Rattle.tm_page.specs.Types.{Aborted, AbortedBy, Begun, Committed, Condemned, Hit, Idle, Inside, Loaded, Open}
+use Rattle.tm_page.specs.Types.{Aborted, AbortedBy, Begun, Committed, Condemned, Idle, Inside, Loaded, Open}
 use Rattle.tm_page.specs.Types.{Outcome}
 use Rattle.tm_page.specs.Types.{PageDelta, Plain, Stopped}
 
@@ -21,11 +22,6 @@ abbrev pub IsReachSaid : ShownMachine → ℕ → Reach → Type 0
 IsReachSaid machine core told =
     (state : State) (doomed : ℕ → Option ℕ) → StandsFor machine state doomed →
     IsReachTold (machine_setting machine) state.memory (state.cores core) (doomed core) told
-
-abbrev pub IsHitSaid : ShownMachine → ℕ → ℕ → Option Hit → Type 0
-IsHitSaid machine core other told =
-    (state : State) (doomed : ℕ → Option ℕ) → StandsFor machine state doomed →
-    IsHitTold (machine_setting machine) state doomed core other told
 
 -- all that a core's transaction keeps for itself is at these addresses
 abbrev pub AreKept : ShownMachine → ℕ → List ℕ → Type 0
@@ -73,7 +69,7 @@ pub record IsDifference (before after : ShownMachine) (number : ℕ) (made : Out
       else None)
   -- a step in whose place an abort from outside came hits nobody
   pub hits : (other : ℕ) → other < length before.views → (other ≡ number → ⊥) →
-      (is_aborted_by made ≡ false → IsHitSaid before number other (hit_on delta other))
+      (is_aborted_by made ≡ false → IsSaidOf before number other (hit_on delta other))
   pub none : (other : ℕ) → is_aborted_by made ≡ true → hit_on delta other ≡ None
 
 -- a step was made, and these are the difference of what is shown before and behind it

@@ -2,7 +2,7 @@
 use Rattle.std.specs.Prelude.{ℕ, ◌%◌, List, [], ◌∷◌, ◌++◌, codes, Option, Some, None}
 use Rattle.hex.specs.Hex.{encode_lower}
 use Rattle.debug_command.specs.Places.{place_text}
-use Rattle.debug_command.specs.declared.symbol.Symbol.{Symbol}
+use Rattle.symbols.specs.declared.symbol.Symbol.{Symbol}
 use Rattle.ia_insn.specs.declared.op.Insn.{Insn}
 use Rattle.text_out.specs.Number.{eight_digits, hex_digits}
 use Rattle.ia_text.specs.Text.{insn_text}

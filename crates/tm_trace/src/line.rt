@@ -11,10 +11,11 @@ ghost use Rattle.ia_text.specs.Text.{insn_text};
 ghost use Rattle.tm_trace.specs.Lines.{datum_text, deed_text, front_text, insn_behind, step_line, values_text};
 
 use crate::deed::{Datum, Deed};
-use debug_command::{Symbol, write_place};
+use debug_command::write_place;
 use ia_insn::Insn;
 use ia_text::write_insn;
 use ia_word::Width;
+use symbols::Symbol;
 use text_out::page::{Page, push, push_bytes, push_eight, push_hex};
 use text_out::text_line::{TextLine, push_number};
 use text_out::{Out, WriteFault};

@@ -20,6 +20,7 @@ cause_word cause.Breakpoint = codes "#BP"
 cause_word (cause.Stop stop) = stop_word stop
 cause_word cause.NotAllowed = codes "not in a transaction"
 
+-- how a step of another core hit
 abbrev pub use_word : Kind → List ℕ
 use_word Read = codes ": read at step "
 use_word Write = codes ": written at step "

@@ -5,27 +5,25 @@
 //! is given tells only outcomes; it is not stepped. Who makes the steps anyway tells a [`Watch`] of them, and needs
 //! nothing of this.
 
-ghost use Rattle.std.specs.Prelude.{◌≡◌, ◌↔◌, ◌+◌, ◌++◌, ◌<◌, ◌∷◌, [], Err, IfOk, OnOk, length};
+ghost use Rattle.std.specs.Prelude.{◌+◌, ◌<◌, IfOk, length};
 ghost use Rattle.tm_hist.specs.Back.{IsFirst};
-ghost use Rattle.tm_hist.specs.Board.{IsFull, IsNew, IsOwedNext, SameBoard};
+ghost use Rattle.tm_hist.specs.Board.{IsNew};
 ghost use Rattle.tm_why.specs.History.{IsReasonOf, IsWatchOf};
 
 use crate::asked::Asked;
 use crate::reason::Reason;
 use crate::watch::Watch;
 use std::alloc::{AllocError, Global};
-use tm_hist::{Board, StepFault};
-use tm_model::{Outcome, Pick};
+use tm_hist::Board;
 
 /// A watch that was told of each step of a board's history. They are made once more on a board of their own, each under
 /// the event that its outcome tells of, at the cost of a step each. `AllocError`, where there was no memory for it.
 pub fn watched(alloc: Global, board: &Board) -> Result<Watch, AllocError>
     ensures { IfOk result (λ watch. IsWatchOf board.now (length board.now.history) watch) }
 {
-    // A board that was made has limits within their ranges, and its history cores of its program: what is refused is
-    // memory.
+    // A board that was made has limits within their ranges: what is refused is memory.
     match Board::new(alloc, board.program(), board.limits(), board.limit()) {
-        Ok(opened) => follow(board, opened).map_err(|_| AllocError),
+        Ok(opened) => Ok(follow(board, opened)),
         Err(_) => Err(AllocError),
     }
 }
@@ -43,66 +41,37 @@ pub fn reason_of(board: &Board, watch: &Watch, core: u8) -> Option<Reason>
     }
 }
 
-// A step of a history is of a core that the program has not.
-#[derive(Clone, Copy, PartialEq, Eq, Debug)]
-struct Stranger;
-
 // Makes the steps of a board's history on a new board, and tells a watch of each.
-fn follow(board: &Board, opened: Board) -> Result<Watch, Stranger>
+fn follow(board: &Board, opened: Board) -> Watch
     requires { IsNew board.now.program board.now.limits board.now.limit opened }
-    ensures { IfOk result (λ watch. IsWatchOf board.now (length board.now.history) watch) }
+    ensures { IsWatchOf board.now (length board.now.history) result }
 {
     let mut first = opened;
     let mut watch = Watch::new();
     'steps: for made in 0..board.made() {
-        watch_step(board, made, &mut first, &mut watch)?;
+        watch_step(board, made, &mut first, &mut watch);
     }
-    Ok(watch)
+    watch
 }
 
 // Makes the next step of a board's history, and tells a watch of it.
-fn watch_step(
-    board: &Board,
-    made: u64,
-    first: &mut Board,
-    watch: &mut Watch,
-) -> Result<(), Stranger>
+fn watch_step(board: &Board, made: u64, first: &mut Board, watch: &mut Watch)
     requires within { made < length board.now.history }
     requires so_far { IsFirst board.now made first.old }
     requires told { IsWatchOf board.now made watch.old }
-    ensures first { OnOk result (IsFirst board.now (made + 1) first.new) }
-    ensures told { OnOk result (IsWatchOf board.now (made + 1) watch.new) }
+    ensures first { IsFirst board.now (made + 1) first.new }
+    ensures told { IsWatchOf board.now (made + 1) watch.new }
 {
-    // These calls do nothing: their contracts say that the step that follows is owed.
-    board.is_run();
+    // These calls do nothing: their contracts say that the board before the step is a run, on as many cores.
     first.is_run();
     let _made = board.made();
-    let Some(pick) = board.history().pick_at(made as usize) else {
+    let _cores = first.cores();
+    let Some((core, outcome)) = board.step_at(made as usize) else {
         unreachable!()
     };
-    let Ok(asked) = Asked::of(first.machine(), pick.core) else {
-        return Err(Stranger);
+    let Ok(asked) = Asked::of(first.machine(), core) else {
+        unreachable!()
     };
-    match step_as_told(first, pick) {
-        Ok(outcome) => {
-            watch.told(&asked, outcome);
-            Ok(())
-        }
-        Err(StepFault::NoSuchCore) => Err(Stranger),
-        Err(StepFault::LimitReached) => unreachable!(),
-    }
-}
-
-// The step that a pick tells of.
-fn step_as_told(board: &mut Board, pick: Pick) -> Result<Outcome, StepFault>
-    ensures full { result ≡ Err StepFault.LimitReached
-        ↔ ((pick.core < length board.old.program.entries) × IsFull board.old) }
-    ensures same { SameBoard board.old board.new }
-    ensures ok { IfOk result (λ outcome. board.new.history ≡ board.old.history ++ (pick.core, outcome) ∷ []) }
-    ensures owed { IfOk result (λ outcome. IsOwedNext pick.event board.old pick.core outcome) }
-{
-    match pick.event {
-        Some(event) => board.step_under(pick.core, event),
-        None => board.step(pick.core),
-    }
+    first.step_again(board, made);
+    watch.told(&asked, outcome);
 }

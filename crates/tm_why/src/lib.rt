@@ -24,7 +24,7 @@ mod watch;
 pub use asked::Asked;
 pub use history::{reason_of, watched};
 pub use laws::hits_stand;
-pub use line::write_reason;
+pub use line::{push_begun, use_word, write_reason};
 pub use reason::Reason;
 pub use row::{StandingHit, Watched};
 pub use watch::Watch;

@@ -56,7 +56,8 @@ fn cause_word(cause: AbortReason) -> &'static [u8]
     }
 }
 
-fn use_word(kind: Kind) -> &'static [u8]
+/// How a step used a line, as it is told before the number of the step.
+pub fn use_word(kind: Kind) -> &'static [u8]
     ensures text { result.now ≡ use_word kind }
     ensures short { length result.now ≤ 18 }
 {
@@ -84,8 +85,8 @@ fn push_hit(row: &mut Page, hit: Option<StandingHit>)
     }
 }
 
-// When the transaction began.
-fn push_begun(row: &mut Page, begun: Option<u64>)
+/// Adds when a transaction began, where that is told.
+pub fn push_begun(row: &mut Page, begun: Option<u64>)
     requires { array_vec_len row.old + 60 ≤ 4096 }
     ensures text { row.new.items ≡ row.old.items ++ begun_words begun }
     ensures len { array_vec_len row.new ≤ array_vec_len row.old + 60 }

@@ -1,11 +1,8 @@
 -- What steps tell of events.
-use Rattle.std.proofs.Common.{◌≡◌, ℕ, List, [], ◌∷◌, ◌++◌, false, Option, Some, None, refl, sym, ap, subst, ⊎_elim, inl}
-use Rattle.std.proofs.Common.{inr}
+use Rattle.std.proofs.Common.{◌≡◌, ℕ, List, [], ◌∷◌, ◌++◌, false, Option, Some, None, refl, sym, subst, ⊎_elim, inr}
 use Rattle.std.proofs.Math.Seq.{drop-length}
 use Rattle.std.proofs.lemmas.List.Elements.{All-append, All-cons, All-nil, All-weaker}
-use Rattle.tm_hist.specs.Board.{ShownBoard, TellsAsShown}
-use Rattle.tm_model.specs.declared.outcome.CoreState.{CoreState}
-use Rattle.tm_model.specs.declared.outcome.CoreState.TheVariants as state
+use Rattle.tm_hist.specs.Board.{ShownBoard, TellsOf}
 use Rattle.tm_model.specs.declared.outcome.Event.{Event}
 use Rattle.tm_model.specs.declared.outcome.Event.TheVariants as event
 use Rattle.tm_model.specs.declared.outcome.Interference.TheVariants.{Interrupt, Eviction, Snoop}
@@ -18,7 +15,7 @@ use Rattle.tm_pick.specs.Kinds.{IsOfKinds, all_kinds, no_kinds}
 use Rattle.tm_pick.specs.declared.events.Events.{Events}
 use Rattle.tm_pick.specs.declared.events.Events.TheVariants.{Never, Rate, Draw}
 use Rattle.tm_pick.specs.declared.kinds.Kinds.{Kinds}
-use Rattle.tm_work.specs.Events.{TellDrawn, TellsOf}
+use Rattle.tm_work.specs.Events.{TellDrawn}
 use Rattle.tm_work.specs.Seats.{AreStepsMade, GoesOn, IsDisturbed, IsStepMade, new_part}
 use Rattle.tm_work.specs.declared.progress.Progress.{Progress}
 use Rattle.tm_work.specs.declared.progress.Receipt.{Receipt}
@@ -48,15 +45,7 @@ not_aborted Begun h = refl
 not_aborted Inside h = refl
 not_aborted Committed h = refl
 
--- a step under an event tells of that one, or of none
-pub told_of : (e : Event) (shown : CoreState) (o : Outcome) → TellsAsShown e shown o → TellsOf (Some e) o
-told_of (event.Abort by) (state.Open depth) o h = inr (ap event_told h)
-told_of (event.Abort by) state.Running o h = inl h
-told_of (event.Abort by) state.Mid o h = inl h
-told_of (event.Abort by) (state.Condemned depth) o h = inl h
-told_of (event.Abort by) (state.Stopped why) o h = inl h
-
--- the same of one under none
+-- a step that tells of no event, or of none
 pub told_none : (o : Outcome) → TellsOf None o → event_told o ≡ None
 told_none o h = ⊎_elim (λ (e : event_told o ≡ None). e) (λ (e : event_told o ≡ None). e) h
 

@@ -4,15 +4,12 @@
 //! notes them once. Where no step is to be made the seat learns that it has ended. For how long the lock is kept is
 //! decided by `desk` and `manner`.
 
-ghost use Rattle.std.specs.Prelude.{◌≡◌, ◌≢◌, ◌↔◌, ◌+◌, ◌<◌, ◌≤◌, ◌⊎◌, ℕ, true, [], ◌∷◌, ◌++◌, length, All};
-ghost use Rattle.std.specs.Prelude.{Err, IfOk, IfSome, IfNone};
+ghost use Rattle.std.specs.Prelude.{◌≡◌, ◌≢◌, ◌+◌, ◌<◌, ◌≤◌, ◌⊎◌, true, length, All, IfSome, IfNone};
 ghost use Rattle.tm_model.specs.declared.outcome.Outcome.{Outcome};
-ghost use Rattle.tm_hist.specs.Board.{IsFull, IsHistory, IsStopped, SameBoard};
-ghost use Rattle.tm_hist.specs.declared.board.StepFault.{StepFault};
+ghost use Rattle.tm_hist.specs.Board.{IsFull, IsHistory, IsStopped, TellsOf};
 ghost use Rattle.tm_pick.specs.Drawn.{AreDrawn};
 ghost use Rattle.tm_pick.specs.Kinds.{IsOfKinds};
 ghost use Rattle.tm_pick.specs.declared.kinds.Kinds.{Kinds};
-ghost use Rattle.tm_work.specs.Events.{TellsOf};
 ghost use Rattle.tm_work.specs.Seats.{AreStepsMade, GoesOn, HaveNoProgress, IsDisturbed, IsLast, IsLater, IsStepMade};
 ghost use Rattle.tm_work.specs.Seats.{SeatTells, Tells, progress_after_step, progress_at_end};
 
@@ -20,9 +17,9 @@ use crate::progress::{Progress, Receipt};
 use crate::seat::{DeskIdentity, Seat};
 use std::collections::VecDeque;
 use std::marker::Model;
-use tm_hist::{Board, StepFault};
+use tm_hist::Board;
 use tm_ledger::Ledger;
-use tm_model::{Event, Outcome};
+use tm_model::{Event, Outcome, Pick};
 use tm_pick::Interferer;
 
 /// The board, with a ledger of what each seat knows of it.
@@ -236,28 +233,11 @@ fn try_step(board: &mut Board, core: u8, event: Option<Event>) -> Option<Receipt
     if index == board.limit() {
         return None;
     }
-    let Ok(outcome) = step_of(board, core, event) else {
+    let Ok(outcome) = board.step_by(Pick { core, event }) else {
         unreachable!()
     };
     Some(Receipt {
         index: index as usize,
         outcome,
     })
-}
-
-// A step of the core under this event, or under none.
-fn step_of(board: &mut Board, core: u8, event: Option<Event>) -> Result<Outcome, StepFault>
-    ensures none { result ≡ Err StepFault.NoSuchCore ↔ (length board.old.program.entries ≤ core) }
-    ensures full { result ≡ Err StepFault.LimitReached
-        ↔ ((core < length board.old.program.entries) × IsFull board.old) }
-    ensures same { SameBoard board.old board.new }
-    ensures ok { IfOk result (λ outcome. board.new.history ≡ board.old.history ++ (core, outcome) ∷ []) }
-    ensures stops { (other : ℕ) → IsStopped board.old other → IsStopped board.new other }
-    ensures idle { IfOk result (λ outcome. (outcome ≡ Outcome.Idle) ↔ IsStopped board.old core) }
-    ensures told { IfOk result (λ outcome. TellsOf event outcome) }
-{
-    match event {
-        None => board.step(core),
-        Some(event) => board.step_under(core, event),
-    }
 }

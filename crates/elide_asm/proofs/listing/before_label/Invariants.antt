@@ -1,5 +1,5 @@
 use Rattle.std.proofs.Common.{◌≡◌, ℕ, ◌+◌, ◌%◌, ◌^◌, ◌<◌, []}
-use Rattle.elide_asm.specs.Labelled.{marks_at}
+use Rattle.symbols.specs.Marks.{marks_at}
 use Rattle.elide_asm.proofs.listing.before_label.Given as goal
 
 -- no label stands at the bytes so far

@@ -1,4 +1,4 @@
-use Rattle.elide_draw.proofs.Recording.{kept_on_ok}
+use Rattle.elide_setup.proofs.Records.{kept_on_ok}
 use Rattle.elide_draw.proofs.Telling.{same_self, told_between, told_one}
 use Rattle.elide_draw.proofs.watch.tell_step.Goals as goal
 

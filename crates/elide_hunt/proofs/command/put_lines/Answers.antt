@@ -1,8 +1,8 @@
 use Rattle.std.proofs.Common.{ℕ, List, Option}
-use Rattle.elide_setup.specs.Gathering.{told}
-use Rattle.elide_setup.specs.declared.gathered.Gathered.{Gathered}
+use Rattle.elide_device.specs.Gathering.{told}
+use Rattle.elide_device.specs.declared.gathered.Gathered.{Gathered}
 use Rattle.elide_hunt.specs.Lines.{search_text}
-use Rattle.elide_hunt.proofs.Texts.{passed_on}
+use Rattle.elide_setup.proofs.Records.{passed_on}
 use Rattle.elide_hunt.proofs.command.put_lines.Goals as goal
 
 pub returns-clause-told : goal.returns-clause-told

@@ -1,9 +1,9 @@
 use Rattle.std.proofs.Common.{ℕ, List, Option}
 use Rattle.elide_object.specs.Object.{object_text}
-use Rattle.elide_setup.specs.Gathering.{told}
-use Rattle.elide_setup.specs.declared.gathered.Gathered.{Gathered}
+use Rattle.elide_device.specs.Gathering.{told}
+use Rattle.elide_device.specs.declared.gathered.Gathered.{Gathered}
 use Rattle.elide_hunt.specs.Object.{search_value}
-use Rattle.elide_hunt.proofs.Texts.{passed_on}
+use Rattle.elide_setup.proofs.Records.{passed_on}
 use Rattle.elide_hunt.proofs.command.put_object.Goals as goal
 
 pub returns-clause-told : goal.returns-clause-told

@@ -5,7 +5,7 @@ pub returns : goal.returns
 returns g c =
     let written = g.S.Serializer.written in
     let name = c.in_ok-send_text.ensures in
-    let text = c.in_ok-send_option_text.ensures in
+    let text = c.in_ok-send_text_or_null.ensures in
     on_ok_weaker c.end_map.result (λ last. (
       written c.begin_map.new.self,
       c.in_ok-begin_map.ensures,
@@ -14,6 +14,6 @@ returns g c =
         written c.send_text.new.out,
         name.1,
         name.2,
-        (text.0, written c.send_option_text.new.out, text.1, text.2, last),
+        (text.0, written c.send_text_or_null.new.out, text.1, text.2, last),
       ),
     )) c.end_map.ensures

@@ -3,7 +3,7 @@ use Rattle.std.proofs.lemmas.Result.{err_from_is_err_and}
 use Rattle.elide_program.specs.Faults.{unread}
 use Rattle.elide_program.specs.Files.{Gives, Tells, most_bytes}
 use Rattle.elide_program.specs.ProgramFile.{IsFile}
-use Rattle.tm_outcomes.specs.declared.table.Told.{Told}
+use Rattle.tm_outcomes.specs.declared.table.FoundOutcome.{FoundOutcome}
 use Rattle.elide_outcomes.specs.Printed.{IsTrialOf}
 use Rattle.elide_outcomes.specs.Refused.{IsNotFound, IsNotShown, misread, not_found, not_paged, not_read, unwritten}
 use Rattle.elide_outcomes.proofs.Refusing.{err_weaker}
@@ -127,6 +127,7 @@ returns-clause-page g c =
           subst (λ (text : List ℕ). IsNotShown text options.machine c.in_ok-found.found.search.outcomes.items
           c.in_ok-page.page why)
           c.as_slice-2.ensures.value
-          (subst (λ (told : List Told). IsNotShown c.as_slice-2.result.now options.machine told c.in_ok-page.page why)
+          (subst
+          (λ (told : List FoundOutcome). IsNotShown c.as_slice-2.result.now options.machine told c.in_ok-page.page why)
           c.as_slice-told.ensures.value h);
     })) c.write-paged.ensures

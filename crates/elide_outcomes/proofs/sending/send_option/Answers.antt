@@ -5,7 +5,7 @@ pub returns : goal.returns
 returns g c =
     let written = g.S.Serializer.written in
     let name = c.in_ok-send_text.ensures in
-    let text = c.in_ok-send_option_text.ensures in
+    let text = c.in_ok-send_text_or_null.ensures in
     let steps = c.in_ok-send_schedule.ensures in
     on_ok_weaker c.end_map.result (λ last. (
       written c.begin_map.new.self,
@@ -17,7 +17,7 @@ returns g c =
         name.2,
         (
           text.0,
-          written c.send_option_text.new.out,
+          written c.send_text_or_null.new.out,
           text.1,
           text.2,
           (steps.0, written c.send_schedule.new.out, steps.1, steps.2, last),

@@ -3,7 +3,7 @@ use Rattle.std.proofs.lemmas.List.Elements.{Contains-get_or}
 use Rattle.std.proofs.lemmas.Result.{err_from_is_err_and}
 use Rattle.tm_hist.specs.Lines.{stop_word}
 use Rattle.tm_rule.specs.declared.kinds.Stop.{Stop}
-use Rattle.elide_outcomes.proofs.Zips.{no_text, zip_added}
+use Rattle.elide_checks.proofs.Zips.{no_text, zip_added}
 use Rattle.elide_outcomes.proofs.stops.stops_of.Goals as goal
 
 pub loop-word-preserved : goal.loop-word-preserved

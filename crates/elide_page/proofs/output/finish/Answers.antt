@@ -1,6 +1,6 @@
 use Rattle.std.proofs.Common.{ℕ, List, Option}
-use Rattle.elide_setup.specs.Gathering.{told}
-use Rattle.elide_setup.specs.declared.gathered.Gathered.{Gathered}
+use Rattle.elide_device.specs.Gathering.{told}
+use Rattle.elide_device.specs.declared.gathered.Gathered.{Gathered}
 use Rattle.page_template.specs.declared.template.TheConstants.{TAIL}
 use Rattle.elide_page.proofs.Paging.{handed_on}
 use Rattle.elide_page.proofs.output.finish.Goals as goal

@@ -2,10 +2,10 @@ use Rattle.std.proofs.Common.{◌≡◌, ℕ, false, List, [], ◌++◌, Option,
 use Rattle.std.specs.Io.KnownBytes.{Appends}
 use Rattle.text_out.proofs.Writing.{appends_none}
 use Rattle.text_out.specs.Writing.{Device}
-use Rattle.elide_setup.specs.Gathering.{told}
+use Rattle.elide_device.specs.Gathering.{told}
 use Rattle.elide_setup.specs.Shown.{shown_text}
 use Rattle.tm_core.specs.Theorem.{ShownMachine as Machine}
-use Rattle.elide_setup.specs.declared.gathered.Gathered.{Gathered}
+use Rattle.elide_device.specs.declared.gathered.Gathered.{Gathered}
 use Rattle.elide_replay.specs.Told.{agreement_object, agreement_text}
 use Rattle.elide_replay.specs.declared.agreement.Agreement.{Agreement}
 use Rattle.elide_replay.specs.declared.agreement.Agreement.TheVariants.{Agrees}

@@ -2,7 +2,7 @@ use Rattle.std.proofs.Common.{◌∙◌, ℕ, subst}
 use Rattle.std.proofs.lemmas.Result.{err_from_is_err_and}
 use Rattle.elide_setup.specs.Rounds.{IsOut}
 use Rattle.elide_setup.proofs.Runs.{run_of_all}
-use Rattle.elide_setup.specs.Gathering.{told as told_contents}
+use Rattle.elide_device.specs.Gathering.{told as told_contents}
 use Rattle.elide_run.proofs.Steps.{told}
 use Rattle.elide_run.proofs.Refusing.{of_walk}
 use Rattle.elide_run.specs.Refused.{unready}
@@ -20,12 +20,12 @@ returns-clause-made g c =
     (λ _ _ _ h. h) in (
       made.0,
       made.1,
-      run_of_all c.args.setup.now.program c.args.setup.now.limits made.0 c.in_ok-machine.machine
+      run_of_all c.args.opened.now.setup.program c.args.opened.now.setup.limits made.0 c.in_ok-machine.machine
           c.walk_recorded.new.maker.machine c.in_ok-machine.ensures.made all.leads,
       all.text,
       all.wrote,
       made.3,
-      subst (λ (n : ℕ). IsOut c.args.course.now n made.0)
+      subst (λ (n : ℕ). IsOut c.args.opened.now.course n made.0)
           (c.cores-cores.ensures.count ∙ c.in_ok-machine.ensures.cores) made.4,
     )
 
@@ -34,10 +34,11 @@ returns-in_err-walk_recorded-clause-refused g c =
     let p =
     err_from_is_err_and c.from_residual-in_err-walk_recorded.result c.from_residual-in_err-walk_recorded.ensures.1 in
     rw (p.1, p.2)
-    (of_walk _ _ (λ m. m.machine) c.args.setup.now c.args.course.now c.cores-cores.result c.args.path _
+    (of_walk _ _ (λ m. m.machine) c.args.opened.now.setup c.args.opened.now.course c.cores-cores.result c.args.path _
     c.in_err-walk_recorded.field-0.0
     (c.cores-cores.ensures.count ∙ c.in_ok-machine.ensures.cores) c.in_ok-machine.ensures.fit
-    (λ made after lead. run_of_all c.args.setup.now.program c.args.setup.now.limits made c.in_ok-machine.machine
+    (λ made after lead. run_of_all c.args.opened.now.setup.program c.args.opened.now.setup.limits made
+    c.in_ok-machine.machine
     after.machine c.in_ok-machine.ensures.made
     (told made _ _ lead (λ m. m.machine)
     (λ m. record {

@@ -7,11 +7,11 @@ use Rattle.elide_json.proofs.RunTexts.{run_text}
 use Rattle.elide_json.specs.Outcomes.{run_back, run_front, run_rows}
 use Rattle.elide_setup.proofs.Records.{recorded_asked}
 use Rattle.elide_setup.proofs.Schedules.{asked_before}
-use Rattle.elide_setup.specs.Gathering.{told}
+use Rattle.elide_device.specs.Gathering.{told}
 use Rattle.elide_setup.specs.Recorded.{IsRecorded}
 use Rattle.elide_setup.specs.Schedules.{picks_made, picks_told, schedule_made}
 use Rattle.elide_setup.specs.Setup.{IsAsked}
-use Rattle.elide_setup.specs.declared.gathered.Gathered.{Gathered}
+use Rattle.elide_device.specs.declared.gathered.Gathered.{Gathered}
 use Rattle.elide_why.proofs.Passing.{kept_first}
 use Rattle.elide_json.specs.Refused.{IsUnsent}
 use Rattle.elide_why.proofs.Refusing.{scheduled_before}
@@ -28,7 +28,7 @@ returns-clause-printed g c =
     let held : Gathered g.row.O.Denot → Option (List ℕ) =
     λ m. told (g.O.Out.device m.out).contents (g.O.Out.device m.before.value).contents m.failures m.row.items in
     let options = c.args.options.now in
-    let setup = c.in_ok-setup.setup in
+    let setup = c.in_ok-opened.opened.setup in
     let machine = c.in_ok-machine.machine in
     let made = c.in_ok-machine.ensures.made in
     let first : Option (List ℕ) = (g.O.Out.device c.args.out).contents in
@@ -45,17 +45,17 @@ returns-clause-printed g c =
     record {
       setup = setup;
       asked = subst (λ (text : Option (List ℕ)). IsAsked text options.machine setup)
-          (c.record_path.ensures.kept options.machine.file.now) c.in_ok-setup.ensures.setup;
+          (c.record_path.ensures.kept options.machine.file.now) c.in_ok-opened.ensures.setup;
       made = made.0;
       steps = asked_before content (g.P.Paths.content c.record_path.new.paths) options.schedule (picks_made made.0)
-          c.record_path.ensures.kept (c.in_ok-setup.ensures.course (picks_made made.0) made.1);
+          c.record_path.ensures.kept (c.in_ok-opened.ensures.course (picks_made made.0) made.1);
       machine = machine;
       ran = made.2;
-      out = c.in_ok-setup.ensures.out (length setup.program.entries) made.0 made.5;
-      recorded = recorded_asked left options.record options.schedule c.in_ok-setup.course made.0
-          c.in_ok-setup.ensures.listed made.1
+      out = c.in_ok-opened.ensures.out (length setup.program.entries) made.0 made.5;
+      recorded = recorded_asked left options.record options.schedule c.in_ok-opened.opened.course made.0
+          c.in_ok-opened.ensures.listed made.1
           (subst (λ (path : Option (Bor (List ℕ))). IsRecorded left path
-          (schedule_made c.in_ok-setup.course (picks_told made.0))) c.in_ok-path.ensures.given made.4);
+          (schedule_made c.in_ok-opened.opened.course (picks_told made.0))) c.in_ok-path.ensures.given made.4);
       came_to = end.came_to;
       wrote = subst (λ (text : List ℕ). Appends first last text)
           (append_assoc (run_front options.traces) (run_rows options.traces made.0) back
@@ -65,40 +65,40 @@ returns-clause-printed g c =
     })
     c.tell_end-told.ensures.told
 
-pub returns-in_err-setup-clause-refused : goal.returns-in_err-setup-clause-refused
-returns-in_err-setup-clause-refused g c =
-    let p = err_from_is_err_and c.from_residual-in_err-setup.result c.from_residual-in_err-setup.ensures.1 in
+pub returns-in_err-opened-clause-refused : goal.returns-in_err-opened-clause-refused
+returns-in_err-opened-clause-refused g c =
+    let p = err_from_is_err_and c.from_residual-in_err-opened.result c.from_residual-in_err-opened.ensures.1 in
     rw (p.1, p.2)
     (unscheduled (scheduled_before (g.P.Paths.content c.args.paths.now) (g.P.Paths.content c.record_path.new.paths)
-    c.args.options.now.machine c.args.options.now.schedule c.in_err-setup.field-0.0
-    c.record_path.ensures.kept c.in_err-setup.ensures.none))
+    c.args.options.now.machine c.args.options.now.schedule c.in_err-opened.field-0.0
+    c.record_path.ensures.kept c.in_err-opened.ensures.none))
 
 pub returns-in_err-machine-clause-refused : goal.returns-in_err-machine-clause-refused
 returns-in_err-machine-clause-refused g c =
     let content : List ℕ → Option (List ℕ) = g.P.Paths.content c.args.paths.now in
     let after : List ℕ → Option (List ℕ) = g.P.Paths.content c.record_path.new.paths in
     let options = c.args.options.now in
-    let setup = c.in_ok-setup.setup in
+    let setup = c.in_ok-opened.opened.setup in
     let p = err_from_is_err_and c.from_residual-in_err-machine.result c.from_residual-in_err-machine.ensures.1 in
     rw (p.1, p.2)
-    (of_run content (g.P.Paths.are_one c.args.paths.now) options setup c.in_ok-setup.course c.in_ok-path.path
+    (of_run content (g.P.Paths.are_one c.args.paths.now) options setup c.in_ok-opened.opened.course c.in_ok-path.path
     c.in_err-machine.field-0.0
     (subst (λ (text : Option (List ℕ)). IsAsked text options.machine setup)
-    (c.record_path.ensures.kept options.machine.file.now) c.in_ok-setup.ensures.setup)
+    (c.record_path.ensures.kept options.machine.file.now) c.in_ok-opened.ensures.setup)
     (λ picks are. asked_before content after options.schedule picks c.record_path.ensures.kept
-    (c.in_ok-setup.ensures.course picks are))
+    (c.in_ok-opened.ensures.course picks are))
     c.in_ok-path.ensures.given c.in_err-machine.ensures.refused)
 
 pub returns-clause-refused : goal.returns-clause-refused
 returns-clause-refused g c =
     let content : List ℕ → Option (List ℕ) = g.P.Paths.content c.args.paths.now in
     let options = c.args.options.now in
-    let setup = c.in_ok-setup.setup in
+    let setup = c.in_ok-opened.opened.setup in
     let machine = c.in_ok-machine.machine in
     let made = c.in_ok-machine.ensures.made in
     let is : IsAsked (content options.machine.file.now) options.machine setup =
     subst (λ (text : Option (List ℕ)). IsAsked text options.machine setup)
-    (c.record_path.ensures.kept options.machine.file.now) c.in_ok-setup.ensures.setup in
+    (c.record_path.ensures.kept options.machine.file.now) c.in_ok-opened.ensures.setup in
     IfErr-weaker c.tell_end-told.result (IsUnsent machine.memory setup.parts)
     (IsRefused content (g.P.Paths.are_one c.args.paths.now) options)
     (λ why h. of_object content (g.P.Paths.are_one c.args.paths.now) options setup machine made.0 why is made.2 h)

@@ -2,7 +2,7 @@ use Rattle.std.proofs.Common.{◌∙◌, ℕ, subst, inl}
 use Rattle.std.proofs.lemmas.Result.{err_from_is_err_and}
 use Rattle.elide_setup.specs.Rounds.{IsOut}
 use Rattle.elide_setup.proofs.Runs.{run_of_all}
-use Rattle.elide_setup.specs.Gathering.{told}
+use Rattle.elide_device.specs.Gathering.{told}
 use Rattle.elide_run.proofs.Refusing.{of_front, of_walk}
 use Rattle.elide_run.specs.Refused.{unready}
 use Rattle.elide_run.proofs.Rows.{rowed, wrote_no_rows, wrote_rows}

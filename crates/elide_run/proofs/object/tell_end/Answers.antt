@@ -2,8 +2,8 @@ use Rattle.std.proofs.Common.{◌≡◌, ◌∙◌, ℕ, List, Option, ap, subst
 use Rattle.std.specs.Io.KnownBytes.{Appends}
 use Rattle.elide_json.specs.Objects.{run_members}
 use Rattle.elide_json.specs.Outcomes.{run_back}
-use Rattle.elide_setup.specs.Gathering.{told}
-use Rattle.elide_setup.specs.declared.gathered.Gathered.{Gathered}
+use Rattle.elide_device.specs.Gathering.{told}
+use Rattle.elide_device.specs.declared.gathered.Gathered.{Gathered}
 use Rattle.elide_run.proofs.Ends.{ending_by, kept_last}
 use Rattle.elide_run.specs.Object.{asked_running, ending_status, running_cores}
 use Rattle.elide_run.proofs.object.tell_end.Goals as goal

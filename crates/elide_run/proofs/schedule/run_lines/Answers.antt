@@ -1,7 +1,7 @@
 use Rattle.std.proofs.Common.{ℕ, List, Option, ◌⊎◌}
 use Rattle.std.proofs.lemmas.Result.{IfOk-weaker}
-use Rattle.elide_setup.specs.Gathering.{told}
-use Rattle.elide_setup.specs.declared.gathered.Gathered.{Gathered}
+use Rattle.elide_device.specs.Gathering.{told}
+use Rattle.elide_device.specs.declared.gathered.Gathered.{Gathered}
 use Rattle.elide_run.specs.Printed.{IsPrinted, IsTold}
 use Rattle.elide_run.specs.declared.halting.Ending.{Ending}
 use Rattle.elide_run.proofs.Printed.{kept_before}

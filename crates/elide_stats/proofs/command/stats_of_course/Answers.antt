@@ -3,7 +3,7 @@ use Rattle.std.proofs.Common.{ℕ, subst}
 use Rattle.std.proofs.lemmas.Result.{IfErr-weaker, err_from_is_err_and}
 use Rattle.elide_setup.specs.Refused.{IsUntold}
 use Rattle.elide_stats.specs.Refused.{IsNoCount, IsUncounted, uncounted, untold}
-use Rattle.elide_stats.proofs.Recording.{kept_on_ok}
+use Rattle.elide_setup.proofs.Records.{kept_on_ok}
 use Rattle.elide_stats.proofs.Steps.{counted_since}
 use Rattle.elide_stats.proofs.command.stats_of_course.Goals as goal
 

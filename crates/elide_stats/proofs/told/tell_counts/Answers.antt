@@ -10,7 +10,7 @@ pub tell_made-told-requires-clause-first : goal.tell_made-told-requires-clause-f
 tell_made-told-requires-clause-first g c =
     let board = c.args.board.now in
     subst (λ (m : Machine). IsRunOf board.program board.limits [] m) (sym c.in_ok-counting.ensures.machine)
-    c.in_ok-machine.ensures.made
+    (rw (c.program.ensures, c.limits.ensures) at c.in_ok-machine.ensures.made)
 
 pub returns : goal.returns
 returns g c =
@@ -20,7 +20,7 @@ returns g c =
 pub returns-in_err-machine : goal.returns-in_err-machine
 returns-in_err-machine g c =
     let p = err_from_is_err_and c.from_residual.result c.from_residual.ensures.1 in
-    rw (p.1, p.2) (inl c.in_err-machine.ensures.none)
+    rw (p.1, p.2) (inl (rw c.limits.ensures at c.in_err-machine.ensures.none))
 
 pub returns-in_err-counting : goal.returns-in_err-counting
 returns-in_err-counting g c =

@@ -1,7 +1,7 @@
 use Rattle.std.proofs.Common.{ℕ, List, Option}
-use Rattle.elide_setup.specs.Gathering.{told}
-use Rattle.elide_setup.specs.declared.gathered.Gathered.{Gathered}
-use Rattle.elide_test.proofs.Texts.{passed_on}
+use Rattle.elide_device.specs.Gathering.{told}
+use Rattle.elide_device.specs.declared.gathered.Gathered.{Gathered}
+use Rattle.elide_setup.proofs.Records.{passed_on}
 use Rattle.elide_test.specs.Tap.{tap_text}
 use Rattle.elide_test.proofs.telling.put_lines.Goals as goal
 

@@ -1,8 +1,8 @@
 use Rattle.std.proofs.Common.{ℕ, List, Option}
 use Rattle.elide_object.specs.Object.{object_text}
-use Rattle.elide_setup.specs.Gathering.{told}
-use Rattle.elide_setup.specs.declared.gathered.Gathered.{Gathered}
-use Rattle.elide_test.proofs.Texts.{passed_on}
+use Rattle.elide_device.specs.Gathering.{told}
+use Rattle.elide_device.specs.declared.gathered.Gathered.{Gathered}
+use Rattle.elide_setup.proofs.Records.{passed_on}
 use Rattle.elide_test.specs.Object.{tests_value}
 use Rattle.elide_test.proofs.telling.put_object.Goals as goal
 

@@ -2,9 +2,9 @@ use Rattle.std.proofs.Common.{◌≡◌, ℕ, false, List, [], ◌++◌, refl, s
 use Rattle.std.specs.Io.KnownBytes.{Appends}
 use Rattle.text_out.proofs.Writing.{appends_none}
 use Rattle.text_out.specs.Writing.{Device}
-use Rattle.elide_setup.specs.Gathering.{told}
+use Rattle.elide_device.specs.Gathering.{told}
 use Rattle.elide_setup.specs.Shown.{shown_text}
-use Rattle.elide_setup.specs.declared.gathered.Gathered.{Gathered}
+use Rattle.elide_device.specs.declared.gathered.Gathered.{Gathered}
 use Rattle.elide_why.proofs.Passing.{both_passed_on}
 use Rattle.std.proofs.lemmas.Result.{err_from_is_err_and}
 use Rattle.elide_threads.proofs.Refusing.{of_counts}

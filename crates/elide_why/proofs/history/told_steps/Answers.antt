@@ -1,17 +1,16 @@
-use Rattle.std.proofs.Common.{◌≡◌, ◌∙◌, ◌++◌, ℕ, List, [], Some, ap, length, subst, sym}
-use Rattle.std.specs.Prelude.{slice_get}
+use Rattle.std.proofs.Common.{◌≡◌, ◌∙◌, ◌++◌, ℕ, [], length, subst, sym}
 use Rattle.std.proofs.lemmas.Result.{err_from_is_err_and}
 use Rattle.text_out.proofs.Writing.{wrote_none, wrote_then}
 use Rattle.text_out.specs.Writing.{Wrote}
 use Rattle.tm_core.specs.Theorem.{ShownMachine as Machine}
-use Rattle.tm_model.specs.Runs.{picks_of}
-use Rattle.tm_model.specs.declared.outcome.Outcome.{Outcome}
 use Rattle.elide_why.proofs.Within.{of_history}
 use Rattle.elide_why.proofs.history.told_steps.Goals.{in-Some+in_ok-step, in_default}
 use Rattle.elide_why.proofs.history.told_steps.Goals as goal
 
 pub loop-index-init : goal.loop-index-init
-loop-index-init g c = ([], wrote_none (g.O.Out.device c.args.out.now), c.in_ok-machine.ensures.cores)
+loop-index-init g c =
+    let cores = rw c.program.ensures at c.in_ok-machine.ensures.cores in
+    ([], wrote_none (g.O.Out.device c.args.out.now), cores)
 
 pub loop-index-preserved : goal.loop-index-preserved
 loop-index-preserved g c =
@@ -35,11 +34,7 @@ loop-index-preserved g c =
 
 pub returns-in_err-step-clause-refused : goal.returns-in_err-step-clause-refused
 returns-in_err-step-clause-refused g c =
-    let board = c.args.board.now in
-    let at : slice_get (picks_of board.history) c.loop-index.index ≡ Some c.in-Some.pick =
-    ap (λ (pairs : List (ℕ × Outcome)). slice_get (picks_of pairs) c.loop-index.index) (sym c.history-history.ensures)
-    ∙ sym c.pick_at.ensures ∙ c.in-Some.is in
     let p = err_from_is_err_and c.from_residual-in_err-step.result c.from_residual-in_err-step.ensures.1 in
     rw (p.1, p.2)
-    (of_history board c.loop-index.machine c.loop-index.index c.in-Some.pick c.in_err-step.field-0.0 c.is_run.ensures
-    c.loop-index.invariant.2 at c.in_err-step.ensures.refused)
+    (of_history c.args.board.now c.loop-index.machine c.in-Some.pick c.in_err-step.field-0.0 c.loop-index.invariant.2
+    c.in-Some.ensures.exists c.in_err-step.ensures.refused)

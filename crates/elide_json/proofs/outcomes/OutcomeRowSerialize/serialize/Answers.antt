@@ -5,7 +5,7 @@ use Rattle.elide_object.proofs.Sending.{sent_equal}
 use Rattle.serde_json.specs.Data.{string}
 use Rattle.elide_json.specs.Outcomes.{outcome_value}
 use Rattle.elide_json.specs.Words.{number_or_null, outcome_event, outcome_name, outcome_status, outcome_stop}
-use Rattle.elide_json.specs.Words.{word_or_null}
+use Rattle.elide_object.specs.Object.{text_or_null}
 use Rattle.elide_json.proofs.outcomes.OutcomeRowSerialize.serialize.Goals as goal
 
 pub returns : goal.returns
@@ -18,12 +18,12 @@ returns g c =
     sent_equal (codes "core") number_value _ c.args.self.now.core _ _ c.from.ensures c.in_ok-send_number-2.ensures in
     let name = sent_equal (codes "outcome") string _ (outcome_name outcome) _ _ c.name_of_outcome.ensures
     c.in_ok-send_text.ensures in
-    let stop = sent_equal (codes "stop") word_or_null _ (outcome_stop outcome) _ _ c.stop_of_outcome.ensures
-    c.in_ok-send_word.ensures in
+    let stop = sent_equal (codes "stop") text_or_null _ (outcome_stop outcome) _ _ c.stop_of_outcome.ensures
+    c.in_ok-send_text_or_null.ensures in
     let status = sent_equal (codes "status") number_or_null _ (outcome_status outcome) _ _ c.status_of.ensures
     c.in_ok-send_optional.ensures in
-    let event = sent_equal (codes "event") word_or_null _ (outcome_event outcome) _ _ c.event_of.ensures
-    c.in_ok-send_word-2.ensures in
+    let event = sent_equal (codes "event") text_or_null _ (outcome_event outcome) _ _ c.event_of.ensures
+    c.in_ok-send_text_or_null-2.ensures in
     on_ok_weaker c.end_map.result (λ ended. (
       written c.begin_map.new.self,
       c.in_ok-begin_map.ensures,
@@ -44,7 +44,7 @@ returns g c =
             name.2,
             (
               stop.0,
-              written c.send_word.new.out,
+              written c.send_text_or_null.new.out,
               stop.1,
               stop.2,
               (
@@ -54,7 +54,7 @@ returns g c =
                 status.2,
                 (
                   event.0,
-                  written c.send_word-2.new.out,
+                  written c.send_text_or_null-2.new.out,
                   event.1,
                   event.2,
                   ended,

@@ -1,8 +1,8 @@
 use Rattle.std.proofs.Common.{ℕ, List, Option, refl}
 use Rattle.tm_schedule.specs.Schedule.{drawn_text}
 use Rattle.elide_setup.proofs.Records.{passed_on}
-use Rattle.elide_setup.specs.Gathering.{told}
-use Rattle.elide_setup.specs.declared.gathered.Gathered.{Gathered}
+use Rattle.elide_device.specs.Gathering.{told}
+use Rattle.elide_device.specs.declared.gathered.Gathered.{Gathered}
 use Rattle.elide_setup.proofs.recorded.DrawnScheduleText.write_to.Goals as goal
 
 pub returns : goal.returns

@@ -8,11 +8,11 @@ use Rattle.tm_schedule.specs.Schedule.{drawn_text}
 use Rattle.tm_schedule.specs.ScheduleWriting.{left_text}
 use Rattle.elide_setup.proofs.StepsKept.{all_written, whole_written}
 use Rattle.elide_setup.specs.Drawing.{AreUnder, may_come}
-use Rattle.elide_setup.specs.Gathering.{told}
+use Rattle.elide_device.specs.Gathering.{told}
 use Rattle.elide_setup.specs.Rounds.{IsDrawnOut}
 use Rattle.elide_setup.specs.Schedules.{picks_made, picks_told}
 use Rattle.elide_setup.specs.Walks.{Leads}
-use Rattle.elide_setup.specs.declared.gathered.Gathered.{Gathered}
+use Rattle.elide_device.specs.declared.gathered.Gathered.{Gathered}
 use Rattle.elide_setup.specs.declared.recording.Recorder.{Recorder}
 use Rattle.elide_setup.proofs.recording.DrawnTextText.write_to.Goals as goal
 

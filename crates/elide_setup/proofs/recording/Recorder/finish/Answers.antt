@@ -1,8 +1,8 @@
 use Rattle.std.proofs.Common.{[], ℕ, List, Option}
 use Rattle.tm_schedule.specs.ScheduleWriting.{left_text}
 use Rattle.elide_setup.proofs.Records.{then_kept}
-use Rattle.elide_setup.specs.Gathering.{told}
-use Rattle.elide_setup.specs.declared.gathered.Gathered.{Gathered}
+use Rattle.elide_device.specs.Gathering.{told}
+use Rattle.elide_device.specs.declared.gathered.Gathered.{Gathered}
 use Rattle.elide_setup.proofs.recording.Recorder.finish.Goals as goal
 
 pub returns : goal.returns

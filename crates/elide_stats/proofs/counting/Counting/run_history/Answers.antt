@@ -1,16 +1,15 @@
-use Rattle.std.proofs.Common.{◌≡◌, ◌<◌, ◌≤◌, ◌+◌, ◌∙◌, ℕ, List, [], ◌∷◌, ◌++◌, Some, length, take}
+use Rattle.std.proofs.Common.{◌≡◌, ◌<◌, ◌≤◌, ◌+◌, ◌∙◌, ℕ, List, [], ◌∷◌, ◌++◌, Option, Some, length, take}
 use Rattle.std.proofs.Common.{ap, arith, refl, subst, sym}
 use Rattle.std.proofs.lemmas.List.{length-map, map-append, take_all, take_more}
 use Rattle.std.proofs.lemmas.Option.{get_or_from_slice_get, slice_get_within}
 use Rattle.std.proofs.lemmas.Result.{err_from_is_err_and}
-use Rattle.std.specs.Prelude.{slice_get}
+use Rattle.std.specs.Prelude.{IfSome, slice_get}
 use Rattle.elide_setup.specs.Schedules.{picks_made}
 use Rattle.tm_model.specs.Runs.{pick_of, picks_of}
 use Rattle.tm_model.specs.declared.outcome.Outcome.{Outcome}
 use Rattle.tm_model.specs.declared.outcome.Pick.{Pick}
 use Rattle.tm_stats.specs.contracts.cause.AbortCausePartialEq.TheImpl as causes
 use Rattle.tm_core.specs.Theorem.{ShownMachine as Machine}
-use Rattle.elide_setup.proofs.HistoryCores.{history_within}
 use Rattle.elide_stats.proofs.Refusing.{of_step}
 use Rattle.elide_stats.proofs.Steps.{go_on_none, go_on_then}
 use Rattle.elide_stats.proofs.counting.Counting.run_history.Goals as goal
@@ -41,8 +40,7 @@ loop-index-preserved g c =
     let pick : Pick = c.unwrap.result in
     let outcome : Outcome = c.in_ok-make_step.field-0 in
     let there : slice_get (picks_of c.args.board.now.history) index ≡ Some pick =
-    ap (λ (pairs : List (ℕ × Outcome)). slice_get (picks_of pairs) index) (sym c.history-history.ensures)
-    ∙ sym c.pick_at.ensures ∙ c.unwrap.ensures in (
+    sym c.pick_at.ensures.pick ∙ c.unwrap.ensures in (
       made.0 ++ (pick, outcome) ∷ [],
       picks_more (picks_of c.args.board.now.history) index pick outcome made.0 there made.1,
       go_on_then (causes.ghosts).eq c.args.self.now c.loop-index.self c.make_step.new.self made.0
@@ -54,22 +52,18 @@ pub returns-clause-ran : goal.returns-clause-ran
 returns-clause-ran g c =
     let made = c.loop-index.invariant in
     let history : List (ℕ × Outcome) = c.args.board.now.history in
-    let same : c.len-index-end.result ≡ length history =
-    c.len-index-end.ensures ∙ ap (λ (pairs : List (ℕ × Outcome)). length pairs) c.history-history.ensures in
-    let all : length history ≤ c.loop-index.index = omega (arith, same, c.loop-index-test.false) in
+    let all : length history ≤ c.loop-index.index = omega (arith, c.made-steps.ensures.made, c.loop-index-test.false) in
     (made.0, picks_all history c.loop-index.index (picks_made made.0) all made.1, made.2)
 
 pub returns-in_err-make_step-clause-refused : goal.returns-in_err-make_step-clause-refused
 returns-in_err-make_step-clause-refused g c =
     let machine : Machine = c.loop-index.self.machine in
-    let history : List (ℕ × Outcome) = c.args.board.now.history in
     let pick : Pick = c.unwrap.result in
-    let there : slice_get (picks_of history) c.loop-index.index ≡ Some pick =
-    ap (λ (pairs : List (ℕ × Outcome)). slice_get (picks_of pairs) c.loop-index.index) (sym c.history-history.ensures)
-    ∙ sym c.pick_at.ensures ∙ c.unwrap.ensures in
-    let within : pick.core < length c.args.board.now.program.entries =
-    history_within c.args.board.now c.loop-index.index pick c.is_run.ensures there in
-    let same : length machine.views ≡ length c.args.board.now.program.entries = c.loop-index.invariant.3 ∙ c.requires in
+    let entries : ℕ = length c.args.board.now.program.entries in
+    let within : pick.core < entries =
+    subst (λ (found : Option Pick). IfSome found (λ one. one.core < entries)) c.unwrap.ensures
+    c.pick_at.ensures.exists in
+    let same : length machine.views ≡ entries = c.loop-index.invariant.3 ∙ c.requires in
     let p = err_from_is_err_and c.from_residual.result c.from_residual.ensures.1 in
     rw (p.1, p.2)
     (of_step machine pick c.in_err-make_step.field-0.0 (subst (λ (n : ℕ). pick.core < n) (sym same) within)

@@ -1,7 +1,0 @@
-use Rattle.std.proofs.Common.{◌≡◌, take}
-use Rattle.tm_model.specs.Runs.{picks_of}
-use Rattle.elide_replay.proofs.once_more.picks_of.Given as goal
-
--- the picks so far are there
-abbrev pub invariant-loop-index : goal.invariant-loop-index
-invariant-loop-index l = l.picks.items ≡ take l.index (picks_of l.board.history)

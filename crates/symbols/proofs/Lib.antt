@@ -1,0 +1,2 @@
+mod Between
+pub mod Showing
