@@ -126,8 +126,8 @@ fn lines_and_kinds(rt: HostRuntime) {
             line: 3,
         },
     ];
-    assert!(rt; program.kinds.as_slice() == &kinds);
-    assert!(rt; program.lines.as_slice() == &lines);
+    assert!(rt; program.kinds.as_slice() == kinds.as_slice());
+    assert!(rt; program.lines.as_slice() == lines.as_slice());
 }
 
 #[test]
