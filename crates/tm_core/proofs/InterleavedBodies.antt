@@ -1,3 +1,5 @@
+-- Transactions as they went (TransactionsAsTheyWent): the bodies that cores made step by step, between steps of others,
+-- are those that are made at once at the XEND, where nobody was hit.
 use Rattle.std.proofs.Common.{◌≡◌, ℕ, suc, ◌<◌, Bool, true, false, cond, eqb, nat_lt, List, [], ◌∷◌, length, Option}
 use Rattle.std.proofs.Common.{Some, None, refl, sym, ap, ◌∙◌, subst}
 use Rattle.std.specs.Prelude.{option_and_then, option_map, MatchOption}

@@ -1,3 +1,5 @@
+-- One step of the machine is the owed step of each state that it stands for, and the machine stands for what follows.
+-- SteppingCore has the core that steps, OtherCores the rest; MachineLemmas brings it to the code's parts.
 use Rattle.std.proofs.Common.{◌≡◌, ℕ, ◌<◌, true, false, cond, eqb, List, [], ◌∷◌, ◌++◌, length, Option, Some, None}
 use Rattle.std.proofs.Common.{refl, sym, ap, ◌∙◌, subst}
 use Rattle.std.specs.Prelude.{option_and_then, option_map, MatchOption}
