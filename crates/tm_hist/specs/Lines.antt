@@ -89,6 +89,10 @@ outcome_words (outcome.Aborted status) = codes "aborted " ++ eight_digits status
 outcome_words (outcome.AbortedBy by status) =
     codes "aborted " ++ eight_digits status ++ codes " " ++ interference_word by
 
+-- the core, and what its step was
+unfoldable pub step_text : ℕ → Outcome → List ℕ
+step_text core outcome = number_text core ++ codes " " ++ outcome_words outcome
+
 -- an outcome line
 unfoldable pub outcome_line : ℕ → Outcome → List ℕ
 outcome_line core outcome = number_text core ++ codes " " ++ outcome_words outcome ++ line_end

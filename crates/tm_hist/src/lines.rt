@@ -9,7 +9,7 @@ ghost use Rattle.arrayvec.specs.ArrayVec.{array_vec_len};
 ghost use Rattle.text_out.specs.Writing.{Writes};
 ghost use Rattle.tm_hist.specs.Lines.{core_line, core_text, dump_line, dump_lines, flag_sum, flags_text};
 ghost use Rattle.tm_hist.specs.Lines.{interference_word, outcome_line, register_text, regs_text, state_text};
-ghost use Rattle.tm_hist.specs.Lines.{state_word, stop_word};
+ghost use Rattle.tm_hist.specs.Lines.{state_word, step_text, stop_word};
 ghost use Rattle.tm_hist.specs.Machine.{core_count, depth_of};
 
 use ia_regs::{Flags, Regs};
@@ -178,10 +178,12 @@ pub fn write_state<O: Out>(machine: &Machine, out: &mut O) -> Result<(), WriteFa
     Ok(())
 }
 
-#[tactic(auto, unfolding(crate::specs::Lines::outcome_line))]
-fn push_outcome(row: &mut TextLine, core: u8, outcome: &Outcome)
+/// Adds the core and what its step was, as an outcome line begins, to an empty row.
+#[tactic(auto, unfolding(crate::specs::Lines::step_text))]
+pub fn push_step(row: &mut TextLine, core: u8, outcome: &Outcome)
     requires { array_vec_len row.old ≡ 0 }
-    ensures { row.new.items ≡ row.old.items ++ outcome_line core outcome.now }
+    ensures text { row.new.items ≡ row.old.items ++ step_text core outcome.now }
+    ensures len { array_vec_len row.new ≤ 30 }
 {
     push_number(row, core);
     push(row, b" ");
@@ -207,6 +209,14 @@ fn push_outcome(row: &mut TextLine, core: u8, outcome: &Outcome)
             push(row, interference_text(*interference));
         }
     }
+}
+
+#[tactic(auto, unfolding(crate::specs::Lines::step_text, crate::specs::Lines::outcome_line))]
+fn push_outcome(row: &mut TextLine, core: u8, outcome: &Outcome)
+    requires { array_vec_len row.old ≡ 0 }
+    ensures { row.new.items ≡ row.old.items ++ outcome_line core outcome.now }
+{
+    push_step(row, core, outcome);
     push(row, b"\n");
 }
 

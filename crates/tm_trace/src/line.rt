@@ -17,9 +17,9 @@ use ia_text::write_insn;
 use ia_word::Width;
 use symbols::Symbol;
 use text_out::page::{Page, push, push_bytes, push_eight, push_hex};
-use text_out::text_line::{TextLine, push_number};
+use text_out::text_line::TextLine;
 use text_out::{Out, WriteFault};
-use tm_hist::{interference_text, stop_text};
+use tm_hist::push_step;
 use tm_model::Outcome;
 
 /// Writes the outcome line of a step, which goes on with what it did: the address, the label there or the nearest
@@ -56,35 +56,12 @@ pub fn write_front<O: Out>(
     Ok(())
 }
 
-#[tactic(auto, unfolding(crate::specs::Lines::front_text))]
+#[tactic(auto, unfolding(tm_hist::specs::Lines::step_text, crate::specs::Lines::front_text))]
 fn push_front(row: &mut TextLine, core: u8, outcome: &Outcome, eip: u32)
     requires { array_vec_len row.old ≡ 0 }
     ensures { row.new.items ≡ row.old.items ++ front_text core outcome.now eip }
 {
-    push_number(row, core);
-    push(row, b" ");
-    match outcome {
-        Outcome::Plain => push(row, b"plain"),
-        Outcome::Loaded => push(row, b"loaded"),
-        Outcome::Stopped(stop) => {
-            push(row, b"stopped ");
-            push(row, stop_text(*stop));
-        }
-        Outcome::Idle => push(row, b"idle"),
-        Outcome::Begun => push(row, b"begun"),
-        Outcome::Inside => push(row, b"inside"),
-        Outcome::Committed => push(row, b"committed"),
-        Outcome::Aborted(status) => {
-            push(row, b"aborted ");
-            push_eight(row, *status);
-        }
-        Outcome::AbortedBy(interference, status) => {
-            push(row, b"aborted ");
-            push_eight(row, *status);
-            push(row, b" ");
-            push(row, interference_text(*interference));
-        }
-    }
+    push_step(row, core, outcome);
     push(row, b" ");
     push_eight(row, eip);
 }
