@@ -5,8 +5,9 @@
 //! transaction ran alone at its XEND. `Machine` is that promise's type, over any sets that keep the laws of
 //! `tm_sets`. What serves the proofs alone is named for it: `specs/StepRefinement.antt` (a step on what is shown),
 //! `specs/Representation.antt` (how a core's parts show it), `specs/ExplainedViews.antt` (the same of a hit, of the
-//! reason of an abort and of the bytes of a step), `specs/AtOnce.antt` (a transaction that runs at once) and
-//! `specs/Machine.antt` (the machine as one value).
+//! reason of an abort and of the bytes of a step), `specs/AtOnce.antt` (a transaction that runs at once),
+//! `specs/Machine.antt` (the machine as one value) and `specs/Stepping.antt` (what the calls that make a step ask of
+//! each other).
 //!
 //! A step is explained by calls that are asked before it, and that change nothing: `Machine::preview` (which bytes it
 //! loads and stores, and why it is an abort), `Machine::hit_by` (whom a previewed step hits, on which line),

@@ -6,6 +6,7 @@
 
 ghost use Rattle.std.specs.Prelude.{◌≡◌, ◌<◌, ℕ, Option, false, length, None, IfOk, IsOk, ◌↔◌};
 ghost use Rattle.tm_model.specs.Explained.{IsHitTold, IsReachTold, abort_reason};
+ghost use Rattle.tm_model.specs.Conflicts.{Doomed};
 ghost use Rattle.tm_model.specs.State.{State};
 ghost use Rattle.tm_core.specs.ExplainedViews.{AreWithin, touched_told};
 ghost use Rattle.tm_core.specs.Previewed.{IsPreview};
@@ -18,6 +19,7 @@ use crate::fault::NoSuchCore;
 use crate::foretell::{Foretold, Touches, foretell};
 use crate::machine::Machine;
 use tm_model::{AbortReason, Hit, Reach};
+use tm_quick::Listing;
 use tm_rule::Code;
 use tm_sets::Sets;
 
@@ -47,24 +49,21 @@ impl<S: Sets> Machine<S> {
         ensures within { AreWithin (length self.now.memory) result.touched }
         ensures written { result.touched ≡ Touches.WriteSet →
             AreLines (view_at self.now core).writes (length self.now.memory) }
-        ensures reason { (a : State) (d : ℕ → Option ℕ) → StandsFor self.now a d →
-            result.reason ≡ abort_reason (machine_setting self.now) a.memory (a.cores core) (d core) }
-        ensures reach { (a : State) (d : ℕ → Option ℕ) → StandsFor self.now a d →
-            IsReachTold (machine_setting self.now) a.memory (a.cores core) (d core) result.reach }
+        ensures reason { (state : State) (doomed : Doomed) → StandsFor self.now state doomed →
+            result.reason ≡ abort_reason (machine_setting self.now) state.memory (state.cores core) (doomed core) }
+        ensures reach { (state : State) (doomed : Doomed) → StandsFor self.now state doomed →
+            IsReachTold (machine_setting self.now) state.memory (state.cores core) (doomed core) result.reach }
     {
         let code = Code {
             bytes: &self.code,
             base: self.base,
             rows: &self.rows,
         };
-        foretell(
-            &self.lines,
-            &code,
-            &self.memory,
-            &self.cpus,
-            &self.sets,
-            core,
-        )
+        let listing = Listing {
+            code,
+            lines: &self.lines,
+        };
+        foretell(&listing, &self.memory, &self.cpus, &self.sets, core)
     }
 
     /// What the next step of `core` comes to, if it makes it now, under no event. `NoSuchCore` (42). Takes no memory;
@@ -73,10 +72,10 @@ impl<S: Sets> Machine<S> {
         ensures exists { IsOk result ↔ (core < length self.now.views) }
         ensures own { IfOk result (λ preview. preview.core ≡ core) }
         ensures eip { IfOk result (λ preview. preview.eip ≡ (view_at self.now core).regs.eip) }
-        ensures reason { IfOk result (λ preview. (a : State) (d : ℕ → Option ℕ) → StandsFor self.now a d →
-            preview.reason ≡ abort_reason (machine_setting self.now) a.memory (a.cores core) (d core)) }
-        ensures reach { IfOk result (λ preview. (a : State) (d : ℕ → Option ℕ) → StandsFor self.now a d →
-            IsReachTold (machine_setting self.now) a.memory (a.cores core) (d core) preview.reach) }
+        ensures reason { IfOk result (λ preview. (state : State) (doomed : Doomed) → StandsFor self.now state doomed →
+            preview.reason ≡ abort_reason (machine_setting self.now) state.memory (state.cores core) (doomed core)) }
+        ensures reach { IfOk result (λ preview. (state : State) (doomed : Doomed) → StandsFor self.now state doomed →
+            IsReachTold (machine_setting self.now) state.memory (state.cores core) (doomed core) preview.reach) }
         ensures made { IfOk result (λ preview. IsPreview self.now preview) }
     {
         let eip = self.regs(core)?.eip;
@@ -98,8 +97,9 @@ impl<S: Sets> Machine<S> {
         requires { IsPreview self.now preview.now }
         ensures exists { IsOk result ↔ (victim < length self.now.views) }
         ensures own { victim ≡ preview.now.core → IfOk result (λ told. told ≡ None) }
-        ensures told { (victim ≡ preview.now.core → ⊥) → IfOk result (λ told. (a : State) (d : ℕ → Option ℕ) →
-            StandsFor self.now a d → IsHitTold (machine_setting self.now) a d preview.now.core victim told) }
+        ensures told { (victim ≡ preview.now.core → ⊥) → IfOk result (λ told. (state : State) (doomed : Doomed) →
+            StandsFor self.now state doomed →
+            IsHitTold (machine_setting self.now) state doomed preview.now.core victim told) }
     {
         if victim >= self.cores() {
             return Err(NoSuchCore);
@@ -118,8 +118,8 @@ impl<S: Sets> Machine<S> {
     pub fn may_hit(&self, preview: &Preview) -> bool
         requires { IsPreview self.now preview.now }
         ensures { result ≡ false → (victim : ℕ) → victim < length self.now.views → (victim ≡ preview.now.core → ⊥) →
-            (a : State) (d : ℕ → Option ℕ) → StandsFor self.now a d →
-            IsHitTold (machine_setting self.now) a d preview.now.core victim None }
+            (state : State) (doomed : Doomed) → StandsFor self.now state doomed →
+            IsHitTold (machine_setting self.now) state doomed preview.now.core victim None }
     {
         if !self.busy {
             return false;

@@ -6,6 +6,7 @@
 
 ghost use Rattle.std.specs.Prelude.{◌≡◌, ◌<◌, ◌≤◌, ◌++◌, ◌∷◌, ◌↔◌, ℕ, List, [], Option, Some, length, false};
 ghost use Rattle.std.specs.Prelude.{IfNone, IfOk, IfSome, IsOk, OnErr};
+ghost use Rattle.tm_model.specs.Conflicts.{Doomed};
 ghost use Rattle.tm_model.specs.State.{State};
 ghost use Rattle.tm_model.specs.declared.outcome.Event.TheVariants as event;
 ghost use Rattle.tm_model.specs.declared.outcome.Outcome.{Outcome};
@@ -57,11 +58,11 @@ impl<S: Sets> Machine<S> {
     pub fn step_under(&mut self, core: u8, event: Event) -> Result<Outcome, NoSuchCore>
         ensures exists { IsOk result ↔ (core < length self.old.views) }
         ensures same { SameMachine self.old self.new }
-        ensures ok { IfOk result (λ outcome. (a : State) (d : ℕ → Option ℕ) → StandsFor self.old a d →
-            TakesStepUnder (Some event) self.old self.new a d core outcome) }
-        ensures run { IfOk result (λ outcome. (start : ShownMachine) (a : State) (d : ℕ → Option ℕ)
-            (steps : List (ℕ × Outcome)) → IsRun start self.old a d steps →
-            IsRun start self.new a d (steps ++ (core, outcome) ∷ [])) }
+        ensures ok { IfOk result (λ outcome. (state : State) (doomed : Doomed) → StandsFor self.old state doomed →
+            TakesStepUnder (Some event) self.old self.new state doomed core outcome) }
+        ensures run { IfOk result (λ outcome. (start : ShownMachine) (state : State) (doomed : Doomed)
+            (earlier : List (ℕ × Outcome)) → IsRun start self.old state doomed earlier →
+            IsRun start self.new state doomed (earlier ++ (core, outcome) ∷ [])) }
         ensures err { OnErr result (self.new ≡ self.old) }
     {
         match event {
@@ -73,11 +74,11 @@ impl<S: Sets> Machine<S> {
     fn interfere(&mut self, core: u8, by: Interference) -> Result<Outcome, NoSuchCore>
         ensures exists { IsOk result ↔ (core < length self.old.views) }
         ensures same { SameMachine self.old self.new }
-        ensures ok { IfOk result (λ outcome. (a : State) (d : ℕ → Option ℕ) → StandsFor self.old a d →
-            TakesStepUnder (Some (event.Abort by)) self.old self.new a d core outcome) }
-        ensures run { IfOk result (λ outcome. (start : ShownMachine) (a : State) (d : ℕ → Option ℕ)
-            (steps : List (ℕ × Outcome)) → IsRun start self.old a d steps →
-            IsRun start self.new a d (steps ++ (core, outcome) ∷ [])) }
+        ensures ok { IfOk result (λ outcome. (state : State) (doomed : Doomed) → StandsFor self.old state doomed →
+            TakesStepUnder (Some (event.Abort by)) self.old self.new state doomed core outcome) }
+        ensures run { IfOk result (λ outcome. (start : ShownMachine) (state : State) (doomed : Doomed)
+            (earlier : List (ℕ × Outcome)) → IsRun start self.old state doomed earlier →
+            IsRun start self.new state doomed (earlier ++ (core, outcome) ∷ [])) }
         ensures err { OnErr result (self.new ≡ self.old) }
     {
         match self.open_depth(core)? {
@@ -107,8 +108,8 @@ impl<S: Sets> Machine<S> {
         requires core { core < length self.old.views }
         requires open { (view_at self.old core).mode ≡ CoreState.Open depth }
         ensures same { SameMachine self.old self.new }
-        ensures ok { (a : State) (d : ℕ → Option ℕ) → StandsFor self.old a d →
-            TakesStepUnder (Some (event.Abort by)) self.old self.new a d core result }
+        ensures ok { (state : State) (doomed : Doomed) → StandsFor self.old state doomed →
+            TakesStepUnder (Some (event.Abort by)) self.old self.new state doomed core result }
     {
         let code = Code {
             bytes: &self.code,

@@ -1,8 +1,11 @@
 //! The call of `tm_whole`: that it runs a transaction, and that it leaves everything as it was where it runs none.
 
 use super::program;
+use ia_image::Program;
 use ia_regs::{Flags, Regs};
 use std::alloc::{AllocError, Global};
+use tm_quick::Listing;
+use tm_rule::Code;
 use tm_whole::run_whole;
 
 /// xbegin, of no distance.
@@ -34,6 +37,19 @@ fn code_of(alloc: Global, end: &[u8]) -> Result<Vec<u8>, AllocError> {
     code.extend_from_slice(COUNT)?;
     code.extend_from_slice(end)?;
     Ok(code)
+}
+
+/// The code of a program, with its lines.
+fn listing_of(program: &Program) -> Listing<'_> {
+    let code = Code {
+        bytes: program.code(),
+        base: program.base(),
+        rows: program.rows(),
+    };
+    Listing {
+        code,
+        lines: program.lines(),
+    }
 }
 
 /// A memory of 0x400 bytes, each another than the one before.
@@ -70,14 +86,7 @@ fn a_transaction_runs_on_memory_in_place(rt: HostRuntime) -> Result<(), AllocErr
     let program = program(&rt, rt.alloc(), code.as_slice(), &[0x100]);
     let mut memory = vec![in rt.alloc(); 0u8; 0x400]?;
     let mut regs = start();
-    let inside = run_whole(
-        program.lines(),
-        program.code(),
-        0x100,
-        &mut memory,
-        &mut regs,
-        7,
-    );
+    let inside = run_whole(&listing_of(&program), &mut memory, &mut regs, 7);
     assert!(rt; inside == Some(6), "how many");
     assert!(rt; regs.gpr == [2, 2, 2, 4, 0x300, 6, 7, 8], "registers");
     assert!(rt; regs.eip == 0x123, "EIP");
@@ -97,14 +106,7 @@ fn a_budget_that_ends_changes_nothing(rt: HostRuntime) -> Result<(), AllocError>
         let mut memory = memory_of(rt.alloc())?;
         let wanted = memory_of(rt.alloc())?;
         let mut regs = start();
-        let inside = run_whole(
-            program.lines(),
-            program.code(),
-            0x100,
-            &mut memory,
-            &mut regs,
-            most,
-        );
+        let inside = run_whole(&listing_of(&program), &mut memory, &mut regs, most);
         assert!(rt; inside.is_none() && regs == start(), "most {most}");
         assert!(rt; memory.as_slice() == wanted.as_slice(), "memory of {most}");
     }
@@ -119,14 +121,7 @@ fn what_is_not_run_changes_nothing(rt: HostRuntime) -> Result<(), AllocError> {
         let mut memory = memory_of(rt.alloc())?;
         let wanted = memory_of(rt.alloc())?;
         let mut regs = start();
-        let inside = run_whole(
-            program.lines(),
-            program.code(),
-            0x100,
-            &mut memory,
-            &mut regs,
-            1000,
-        );
+        let inside = run_whole(&listing_of(&program), &mut memory, &mut regs, 1000);
         assert!(rt; inside.is_none() && regs == start(), "end {at}");
         assert!(rt; memory.as_slice() == wanted.as_slice(), "memory of {at}");
     }

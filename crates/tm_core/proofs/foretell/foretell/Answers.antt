@@ -15,7 +15,7 @@ returns-in-Running-clause-reach g c =
     let cpu : Cpu = c.index-cpus-c.result in
     let here : get_or cpus c.args.c cpu ≡ cpu_at cpus c.args.c =
     get_or_default cpus c.args.c cpu no_cpu c.requires.exists in
-    let k : Setting = parts_setting c.args.code.now.bytes.now c.args.code.now.base (length m) a in
+    let k : Setting = parts_setting c.args.listing.now.code.bytes.now c.args.listing.now.code.base (length m) a in
     c.foretell_running.ensures.reach a
     ∙ ap (reach_shown k m (cpu_view a c.args.c cpu)) (sym c.in-Running.is)
     ∙ ap (λ (x : Cpu). reach_shown k m (cpu_view a c.args.c x) x.state) (c.index-cpus-c.is ∙ here)

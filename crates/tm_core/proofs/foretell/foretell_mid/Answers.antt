@@ -8,6 +8,7 @@ pub returns-in-Goes-clause-within : goal.returns-in-Goes-clause-within
 returns-in-Goes-clause-within c =
     let size : ℕ = length c.args.memory.now in
     let stores : StoreIn size c.in-Goes.store =
-    store_within c.args.code.now.bytes.now c.args.code.now.base size c.args.cpu.now.base c.args.cpu.now.kept
+    store_within c.args.listing.now.code.bytes.now c.args.listing.now.code.base size c.args.cpu.now.base
+    c.args.cpu.now.kept
     c.in-Goes.field-0 c.in-Goes.store (sym c.outside.ensures ∙ c.in-Goes.is) in
     subst (AreWithin size) (sym c.accessing.ensures.touched) (tt, store_place size c.in-Goes.store stores)

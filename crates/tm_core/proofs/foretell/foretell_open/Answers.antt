@@ -22,7 +22,7 @@ foretell_in_room-requires-clause-access g c =
     let size : ℕ = length c.args.memory.now in
     let loads : LoadIn size c.plan-planned.result.access =
     subst (LoadIn size) (sym c.plan-planned.ensures.load)
-    (load_within c.args.code.now.bytes.now c.args.code.now.base size (regs_of c.args.cpu.now)) in
+    (load_within c.args.listing.now.code.bytes.now c.args.listing.now.code.base size (regs_of c.args.cpu.now)) in
     load_lines size (g.S.Sets.content c.args.sets.now).fixed.line_count c.plan-planned.result.access loads
     c.requires.lines c.requires.small
 
@@ -31,7 +31,7 @@ foretell_in_room-requires-in-Nests-clause-access g c =
     let size : ℕ = length c.args.memory.now in
     let loads : LoadIn size c.plan-planned.result.access =
     subst (LoadIn size) (sym c.plan-planned.ensures.load)
-    (load_within c.args.code.now.bytes.now c.args.code.now.base size (regs_of c.args.cpu.now)) in
+    (load_within c.args.listing.now.code.bytes.now c.args.listing.now.code.base size (regs_of c.args.cpu.now)) in
     load_lines size (g.S.Sets.content c.args.sets.now).fixed.line_count c.plan-planned.result.access loads
     c.requires.lines c.requires.small
 
@@ -40,7 +40,7 @@ foretell_commit-requires-clause-access g c =
     let size : ℕ = length c.args.memory.now in
     let loads : LoadIn size c.plan-planned.result.access =
     subst (LoadIn size) (sym c.plan-planned.ensures.load)
-    (load_within c.args.code.now.bytes.now c.args.code.now.base size (regs_of c.args.cpu.now)) in
+    (load_within c.args.listing.now.code.bytes.now c.args.listing.now.code.base size (regs_of c.args.cpu.now)) in
     load_lines size (g.S.Sets.content c.args.sets.now).fixed.line_count c.plan-planned.result.access loads
     c.requires.lines c.requires.small
 
@@ -49,7 +49,7 @@ foretell_in_room-requires-else-depth-eq1-clause-access g c =
     let size : ℕ = length c.args.memory.now in
     let loads : LoadIn size c.plan-planned.result.access =
     subst (LoadIn size) (sym c.plan-planned.ensures.load)
-    (load_within c.args.code.now.bytes.now c.args.code.now.base size (regs_of c.args.cpu.now)) in
+    (load_within c.args.listing.now.code.bytes.now c.args.listing.now.code.base size (regs_of c.args.cpu.now)) in
     load_lines size (g.S.Sets.content c.args.sets.now).fixed.line_count c.plan-planned.result.access loads
     c.requires.lines c.requires.small
 
@@ -57,7 +57,8 @@ pub foretell_in_room-requires-clause-store : goal.foretell_in_room-requires-clau
 foretell_in_room-requires-clause-store g c =
     let size : ℕ = length c.args.memory.now in
     let stores : StoreIn size c.in-GoesOn.store =
-    store_within_inside c.args.code.now.bytes.now c.args.code.now.base size (regs_of c.args.cpu.now) c.args.depth
+    store_within_inside c.args.listing.now.code.bytes.now c.args.listing.now.code.base size
+    (regs_of c.args.cpu.now) c.args.depth
     c.plan-planned.result.loaded c.in-GoesOn.field-0 c.in-GoesOn.store
     (sym c.plan-planned.ensures.comes_to ∙ c.in-GoesOn.is) in
     store_lines size (g.S.Sets.content c.args.sets.now).fixed.line_count c.in-GoesOn.store stores c.requires.lines
@@ -66,8 +67,8 @@ foretell_in_room-requires-clause-store g c =
 pub returns-in-Fails-clause-reach : goal.returns-in-Fails-clause-reach
 returns-in-Fails-clause-reach g c =
     let a : Content = g.S.Sets.content c.args.sets.now in
-    let code : List ℕ = c.args.code.now.bytes.now in
-    let base : ℕ = c.args.code.now.base in
+    let code : List ℕ = c.args.listing.now.code.bytes.now in
+    let base : ℕ = c.args.listing.now.code.base in
     let m : List ℕ = c.args.memory.now in
     let v : View = cpu_view a c.args.c c.args.cpu.now in
     c.untouching.ensures.reach
@@ -79,8 +80,8 @@ returns-in-Fails-clause-reach g c =
 pub returns-in-GoesOn-clause-step : goal.returns-in-GoesOn-clause-step
 returns-in-GoesOn-clause-step g c =
     let a : Content = g.S.Sets.content c.args.sets.now in
-    let code : List ℕ = c.args.code.now.bytes.now in
-    let base : ℕ = c.args.code.now.base in
+    let code : List ℕ = c.args.listing.now.code.bytes.now in
+    let base : ℕ = c.args.listing.now.code.base in
     let m : List ℕ = c.args.memory.now in
     let k : Setting = parts_setting code base (length m) a in
     let v : View = cpu_view a c.args.c c.args.cpu.now in
@@ -98,15 +99,15 @@ returns-in-GoesOn-clause-within g c =
     let size : ℕ = length c.args.memory.now in
     let loads : LoadIn size c.plan-planned.result.access =
     subst (LoadIn size) (sym c.plan-planned.ensures.load)
-    (load_within c.args.code.now.bytes.now c.args.code.now.base size (regs_of c.args.cpu.now)) in
+    (load_within c.args.listing.now.code.bytes.now c.args.listing.now.code.base size (regs_of c.args.cpu.now)) in
     within_in_room size _ c.plan-planned.result.access c.foretell_in_room.result.touched loads
-    (c.foretell_in_room.ensures.touched c.args.code.now.bytes.now c.args.code.now.base size)
+    (c.foretell_in_room.ensures.touched c.args.listing.now.code.bytes.now c.args.listing.now.code.base size)
 
 pub returns-in-GoesOn-clause-reach : goal.returns-in-GoesOn-clause-reach
 returns-in-GoesOn-clause-reach g c =
     let a : Content = g.S.Sets.content c.args.sets.now in
-    let code : List ℕ = c.args.code.now.bytes.now in
-    let base : ℕ = c.args.code.now.base in
+    let code : List ℕ = c.args.listing.now.code.bytes.now in
+    let base : ℕ = c.args.listing.now.code.base in
     let m : List ℕ = c.args.memory.now in
     let v : View = cpu_view a c.args.c c.args.cpu.now in
     c.foretell_in_room.ensures.reach code base (length m)
@@ -118,8 +119,8 @@ returns-in-GoesOn-clause-reach g c =
 pub returns-in-GoesOn-clause-reason : goal.returns-in-GoesOn-clause-reason
 returns-in-GoesOn-clause-reason g c =
     let a : Content = g.S.Sets.content c.args.sets.now in
-    let code : List ℕ = c.args.code.now.bytes.now in
-    let base : ℕ = c.args.code.now.base in
+    let code : List ℕ = c.args.listing.now.code.bytes.now in
+    let base : ℕ = c.args.listing.now.code.base in
     let m : List ℕ = c.args.memory.now in
     let v : View = cpu_view a c.args.c c.args.cpu.now in
     c.foretell_in_room.ensures.reason code base (length m)
@@ -131,8 +132,8 @@ returns-in-GoesOn-clause-reason g c =
 pub returns-in-Nests-clause-step : goal.returns-in-Nests-clause-step
 returns-in-Nests-clause-step g c =
     let a : Content = g.S.Sets.content c.args.sets.now in
-    let code : List ℕ = c.args.code.now.bytes.now in
-    let base : ℕ = c.args.code.now.base in
+    let code : List ℕ = c.args.listing.now.code.bytes.now in
+    let base : ℕ = c.args.listing.now.code.base in
     let m : List ℕ = c.args.memory.now in
     let k : Setting = parts_setting code base (length m) a in
     let v : View = cpu_view a c.args.c c.args.cpu.now in
@@ -150,15 +151,15 @@ returns-in-Nests-clause-within g c =
     let size : ℕ = length c.args.memory.now in
     let loads : LoadIn size c.plan-planned.result.access =
     subst (LoadIn size) (sym c.plan-planned.ensures.load)
-    (load_within c.args.code.now.bytes.now c.args.code.now.base size (regs_of c.args.cpu.now)) in
+    (load_within c.args.listing.now.code.bytes.now c.args.listing.now.code.base size (regs_of c.args.cpu.now)) in
     within_in_room size _ c.plan-planned.result.access c.foretell_in_room-in-Nests.result.touched loads
-    (c.foretell_in_room-in-Nests.ensures.touched c.args.code.now.bytes.now c.args.code.now.base size)
+    (c.foretell_in_room-in-Nests.ensures.touched c.args.listing.now.code.bytes.now c.args.listing.now.code.base size)
 
 pub returns-in-Nests-clause-reach : goal.returns-in-Nests-clause-reach
 returns-in-Nests-clause-reach g c =
     let a : Content = g.S.Sets.content c.args.sets.now in
-    let code : List ℕ = c.args.code.now.bytes.now in
-    let base : ℕ = c.args.code.now.base in
+    let code : List ℕ = c.args.listing.now.code.bytes.now in
+    let base : ℕ = c.args.listing.now.code.base in
     let m : List ℕ = c.args.memory.now in
     let v : View = cpu_view a c.args.c c.args.cpu.now in
     c.foretell_in_room-in-Nests.ensures.reach code base (length m)
@@ -170,8 +171,8 @@ returns-in-Nests-clause-reach g c =
 pub returns-in-Nests-clause-reason : goal.returns-in-Nests-clause-reason
 returns-in-Nests-clause-reason g c =
     let a : Content = g.S.Sets.content c.args.sets.now in
-    let code : List ℕ = c.args.code.now.bytes.now in
-    let base : ℕ = c.args.code.now.base in
+    let code : List ℕ = c.args.listing.now.code.bytes.now in
+    let base : ℕ = c.args.listing.now.code.base in
     let m : List ℕ = c.args.memory.now in
     let v : View = cpu_view a c.args.c c.args.cpu.now in
     c.foretell_in_room-in-Nests.ensures.reason code base (length m)
@@ -183,8 +184,8 @@ returns-in-Nests-clause-reason g c =
 pub returns-then-depth-eq1-clause-step : goal.returns-then-depth-eq1-clause-step
 returns-then-depth-eq1-clause-step g c =
     let a : Content = g.S.Sets.content c.args.sets.now in
-    let code : List ℕ = c.args.code.now.bytes.now in
-    let base : ℕ = c.args.code.now.base in
+    let code : List ℕ = c.args.listing.now.code.bytes.now in
+    let base : ℕ = c.args.listing.now.code.base in
     let m : List ℕ = c.args.memory.now in
     let k : Setting = parts_setting code base (length m) a in
     let v : View = cpu_view a c.args.c c.args.cpu.now in
@@ -201,13 +202,13 @@ pub returns-then-depth-eq1-clause-within : goal.returns-then-depth-eq1-clause-wi
 returns-then-depth-eq1-clause-within g c =
     let size : ℕ = length c.args.memory.now in
     within_of_commit size _ c.foretell_commit.result.touched
-    (c.foretell_commit.ensures.touched c.args.code.now.bytes.now c.args.code.now.base size)
+    (c.foretell_commit.ensures.touched c.args.listing.now.code.bytes.now c.args.listing.now.code.base size)
 
 pub returns-then-depth-eq1-clause-reach : goal.returns-then-depth-eq1-clause-reach
 returns-then-depth-eq1-clause-reach g c =
     let a : Content = g.S.Sets.content c.args.sets.now in
-    let code : List ℕ = c.args.code.now.bytes.now in
-    let base : ℕ = c.args.code.now.base in
+    let code : List ℕ = c.args.listing.now.code.bytes.now in
+    let base : ℕ = c.args.listing.now.code.base in
     let m : List ℕ = c.args.memory.now in
     let k : Setting = parts_setting code base (length m) a in
     let v : View = cpu_view a c.args.c c.args.cpu.now in
@@ -223,8 +224,8 @@ returns-then-depth-eq1-clause-reach g c =
 pub returns-then-depth-eq1-clause-reason : goal.returns-then-depth-eq1-clause-reason
 returns-then-depth-eq1-clause-reason g c =
     let a : Content = g.S.Sets.content c.args.sets.now in
-    let code : List ℕ = c.args.code.now.bytes.now in
-    let base : ℕ = c.args.code.now.base in
+    let code : List ℕ = c.args.listing.now.code.bytes.now in
+    let base : ℕ = c.args.listing.now.code.base in
     let m : List ℕ = c.args.memory.now in
     let v : View = cpu_view a c.args.c c.args.cpu.now in
     c.foretell_commit.ensures.reason code base (length m)
@@ -236,8 +237,8 @@ returns-then-depth-eq1-clause-reason g c =
 pub returns-else-depth-eq1-clause-step : goal.returns-else-depth-eq1-clause-step
 returns-else-depth-eq1-clause-step g c =
     let a : Content = g.S.Sets.content c.args.sets.now in
-    let code : List ℕ = c.args.code.now.bytes.now in
-    let base : ℕ = c.args.code.now.base in
+    let code : List ℕ = c.args.listing.now.code.bytes.now in
+    let base : ℕ = c.args.listing.now.code.base in
     let m : List ℕ = c.args.memory.now in
     let k : Setting = parts_setting code base (length m) a in
     let v : View = cpu_view a c.args.c c.args.cpu.now in
@@ -255,15 +256,16 @@ returns-else-depth-eq1-clause-within g c =
     let size : ℕ = length c.args.memory.now in
     let loads : LoadIn size c.plan-planned.result.access =
     subst (LoadIn size) (sym c.plan-planned.ensures.load)
-    (load_within c.args.code.now.bytes.now c.args.code.now.base size (regs_of c.args.cpu.now)) in
+    (load_within c.args.listing.now.code.bytes.now c.args.listing.now.code.base size (regs_of c.args.cpu.now)) in
     within_in_room size _ c.plan-planned.result.access c.foretell_in_room-else-depth-eq1.result.touched loads
-    (c.foretell_in_room-else-depth-eq1.ensures.touched c.args.code.now.bytes.now c.args.code.now.base size)
+    (c.foretell_in_room-else-depth-eq1.ensures.touched c.args.listing.now.code.bytes.now
+    c.args.listing.now.code.base size)
 
 pub returns-else-depth-eq1-clause-reach : goal.returns-else-depth-eq1-clause-reach
 returns-else-depth-eq1-clause-reach g c =
     let a : Content = g.S.Sets.content c.args.sets.now in
-    let code : List ℕ = c.args.code.now.bytes.now in
-    let base : ℕ = c.args.code.now.base in
+    let code : List ℕ = c.args.listing.now.code.bytes.now in
+    let base : ℕ = c.args.listing.now.code.base in
     let m : List ℕ = c.args.memory.now in
     let k : Setting = parts_setting code base (length m) a in
     let v : View = cpu_view a c.args.c c.args.cpu.now in
@@ -279,8 +281,8 @@ returns-else-depth-eq1-clause-reach g c =
 pub returns-else-depth-eq1-clause-reason : goal.returns-else-depth-eq1-clause-reason
 returns-else-depth-eq1-clause-reason g c =
     let a : Content = g.S.Sets.content c.args.sets.now in
-    let code : List ℕ = c.args.code.now.bytes.now in
-    let base : ℕ = c.args.code.now.base in
+    let code : List ℕ = c.args.listing.now.code.bytes.now in
+    let base : ℕ = c.args.listing.now.code.base in
     let m : List ℕ = c.args.memory.now in
     let v : View = cpu_view a c.args.c c.args.cpu.now in
     c.foretell_in_room-else-depth-eq1.ensures.reason code base (length m)

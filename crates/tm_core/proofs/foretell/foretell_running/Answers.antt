@@ -9,8 +9,9 @@ returns-then-takes_two_steps-clause-within c =
     let size : ℕ = length c.args.memory.now in
     let loads : LoadIn size c.load_at-access.result =
     subst (LoadIn size)
-    (sym (c.load_at-access.ensures.value c.args.code.now.bytes.now c.args.code.now.base c.standing-row.ensures))
-    (load_within c.args.code.now.bytes.now c.args.code.now.base size c.args.cpu.now.base) in
+    (sym (c.load_at-access.ensures.value c.args.listing.now.code.bytes.now c.args.listing.now.code.base
+    c.standing-row.ensures))
+    (load_within c.args.listing.now.code.bytes.now c.args.listing.now.code.base size c.args.cpu.now.base) in
     subst (AreWithin size) (sym c.accessing.ensures.touched) (loads, tt)
 
 pub returns-else-takes_two_steps-clause-within : goal.returns-else-takes_two_steps-clause-within
@@ -18,10 +19,12 @@ returns-else-takes_two_steps-clause-within c =
     let size : ℕ = length c.args.memory.now in
     let loads : LoadIn size c.load_at-access.result =
     subst (LoadIn size)
-    (sym (c.load_at-access.ensures.value c.args.code.now.bytes.now c.args.code.now.base c.standing-row.ensures))
-    (load_within c.args.code.now.bytes.now c.args.code.now.base size c.args.cpu.now.base) in
+    (sym (c.load_at-access.ensures.value c.args.listing.now.code.bytes.now c.args.listing.now.code.base
+    c.standing-row.ensures))
+    (load_within c.args.listing.now.code.bytes.now c.args.listing.now.code.base size c.args.cpu.now.base) in
     let stores : StoreIn size c.in-Goes.store =
-    store_within c.args.code.now.bytes.now c.args.code.now.base size c.args.cpu.now.base c.load-loaded.result
+    store_within c.args.listing.now.code.bytes.now c.args.listing.now.code.base size c.args.cpu.now.base
+    c.load-loaded.result
     c.in-Goes.field-0 c.in-Goes.store (sym c.outside.ensures ∙ c.in-Goes.is) in
     subst (AreWithin size) (sym c.accessing-else-takes_two_steps.ensures.touched)
     (loads, store_place size c.in-Goes.store stores)
