@@ -13,7 +13,7 @@ use crate::head::{Statement, read_head};
 use crate::list::EntryList;
 use crate::operand::Operands;
 use crate::state::{SourceState, behind, enter};
-use crate::statement::push_statement;
+use crate::statement::{Context, push_statement};
 use ia_item::{Definition, Entry, Item, Symbol};
 use ia_lex::{LexFault, tokens};
 use ia_names::Names;
@@ -97,6 +97,15 @@ fn push_label<'a>(
     }
 }
 
+/// A line, and what it has to know of the lines above.
+#[derive(Clone, Copy)]
+pub struct Line<'a> {
+    /// What it has to know of them.
+    pub state: SourceState,
+    /// Its bytes.
+    pub text: &'a [u8],
+}
+
 /// Adds the entries of one more line, and gives what the next one has to know.
 #[tactic(auto, unfolding(crate::specs::Source::line_onto))]
 pub fn push_line<'a>(
@@ -105,16 +114,17 @@ pub fn push_line<'a>(
     names: &mut Names<'a>,
     defined: &mut IndexSet<Symbol>,
     entries: &mut EntryList<'a>,
-    state: SourceState,
-    line: &'a [u8],
+    line: Line<'a>,
 ) -> Result<SourceState, SourceFault>
     ensures grows { Grows names.old names.new }
     ensures line { (r : Reading) → IsNaming r.naming names.new → MatchResult result
-        (λ s. line_onto (source_content r state names.old defined.old entries.old.list.items) line.now
-        ≡ Ok (source_content r s names.new defined.new entries.new.list.items))
-        (Tells (line_onto (source_content r state names.old defined.old entries.old.list.items) line.now)) }
+        (λ s. line_onto (source_content r line.entry.state names.old defined.old entries.old.list.items)
+        line.entry.text.now ≡ Ok (source_content r s names.new defined.new entries.new.list.items))
+        (Tells (line_onto (source_content r line.entry.state names.old defined.old entries.old.list.items)
+        line.entry.text.now)) }
 {
-    let words = match tokens(alloc, line) {
+    let state = line.state;
+    let words = match tokens(alloc, line.text) {
         Ok(words) => words,
         Err(LexFault::BadToken) => {
             return Err(SourceFault::Line {
@@ -136,16 +146,12 @@ pub fn push_line<'a>(
     };
     push_label(entries, state, label, head.statement)?;
     enter(names, head.label, label, head.statement);
-    match push_statement(
-        alloc,
-        operands,
-        names,
-        entries,
+    let context = Context {
         state,
         label,
-        head.statement,
-        head.rest,
-    ) {
+        tokens: head.rest,
+    };
+    match push_statement(alloc, operands, names, entries, head.statement, context) {
         Ok(()) => Ok(behind(state, head.statement, head.rest)),
         Err(fault) => Err(fault),
     }

@@ -4,7 +4,7 @@ ghost use Rattle.std.specs.Prelude.{◌≡◌, ◌≤◌, length};
 
 use crate::budget::Extent;
 use crate::fault::SourceFault;
-use crate::line::push_line;
+use crate::line::{Line, push_line};
 use crate::list::EntryList;
 use crate::operand::Operands;
 use crate::state::{SourceState, start};
@@ -82,15 +82,16 @@ impl<'a> Rest<'a> {
         ensures fit { OnOk result (AllFit entries.old.list.items → AllFit entries.new.list.items) }
         ensures onward { OnOk result (self.old.place < self.new.place) }
     {
-        let (line, taken) = first_line(&self.source[self.place..]);
-        extent.make_room(names, entries, self.state.equs, line)?;
+        let (text, taken) = first_line(&self.source[self.place..]);
+        extent.make_room(names, entries, self.state.equs, text)?;
+        let state = self.state;
+        let line = Line { state, text };
         match push_line(
             alloc,
             &mut self.operands,
             names,
             &mut self.defined,
             entries,
-            self.state,
             line,
         ) {
             Ok(next) => self.state = next,

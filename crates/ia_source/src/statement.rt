@@ -19,13 +19,24 @@ use crate::list::EntryList;
 use crate::operand::{Operands, read_operands};
 use crate::state::{SourceState, named_section, only_number};
 use crate::sum::whole_expression;
-use crate::values::push_values;
+use crate::values::{ValueTokens, push_values};
 use ia_form::instruction;
 use ia_insn::Mnemonic;
 use ia_item::{Definition, Entry, Item, ScopedExpression, Template};
 use ia_lex::{Expression, Token, register_of};
 use ia_names::Names;
 use std::alloc::{AllocError, Global};
+
+/// What stands around a statement: what it has to know of the lines above, its line's label, and the tokens behind it.
+#[derive(Clone, Copy)]
+pub struct Context<'a, 't> {
+    /// What the line has to know of the lines above.
+    pub state: SourceState,
+    /// The symbol of the line's label, where it has one.
+    pub label: Option<Definition<'a>>,
+    /// What stands behind the mnemonic or the directive.
+    pub tokens: &'t [Token<'a>],
+}
 
 /// The expression that tokens are, if they are one.
 fn read_expression<'a>(
@@ -290,50 +301,51 @@ fn push_directive<'a>(
     operands: &mut Operands<'a>,
     names: &mut Names<'a>,
     entries: &mut EntryList<'a>,
-    state: SourceState,
-    label: Option<Definition<'a>>,
     directive: Directive,
-    tokens: &[Token<'a>],
+    context: Context<'a, '_>,
 ) -> Result<(), SourceFault>
     ensures scope { names.new.scope ≡ names.old.scope }
     ensures grows { Grows names.old names.new }
     ensures entries { (r : Reading) → IsNaming r.naming names.new → MatchResult result
         (λ _. directive_onto (map (entry_content r) entries.old.list.items)
-        (state_content names.old.scope.text.now state) (option_map (definition_name r) label.entry) directive
-        (map lexeme_of tokens.now) ≡ Some (map (entry_content r) entries.new.list.items))
+        (state_content names.old.scope.text.now context.entry.state)
+        (option_map (definition_name r) context.entry.label) directive (map lexeme_of context.entry.tokens.now)
+        ≡ Some (map (entry_content r) entries.new.list.items))
         (IsBad (directive_onto (map (entry_content r) entries.old.list.items)
-        (state_content names.old.scope.text.now state) (option_map (definition_name r) label.entry) directive
-        (map lexeme_of tokens.now)) state.line) }
+        (state_content names.old.scope.text.now context.entry.state)
+        (option_map (definition_name r) context.entry.label) directive (map lexeme_of context.entry.tokens.now))
+        context.entry.state.line) }
 {
+    let state = context.state;
+    let tokens = context.tokens;
     match directive {
         Directive::Section => if_fits(named_section(tokens).is_some(), state),
         Directive::Org => push_some(entries, state, read_org(state, tokens)),
         Directive::Bits => if_fits(is_32(tokens), state),
         Directive::Global => if_fits(is_symbol(tokens), state),
-        Directive::Db => push_values(
-            alloc,
-            &mut operands.number,
-            names,
-            entries,
-            state,
-            false,
-            tokens,
-        ),
-        Directive::Dd => push_values(
-            alloc,
-            &mut operands.number,
-            names,
-            entries,
-            state,
-            true,
-            tokens,
-        ),
+        Directive::Db => {
+            let values = ValueTokens {
+                state,
+                long: false,
+                tokens,
+            };
+            push_values(alloc, &mut operands.number, names, entries, values)
+        }
+        Directive::Dd => {
+            let values = ValueTokens {
+                state,
+                long: true,
+                tokens,
+            };
+            push_values(alloc, &mut operands.number, names, entries, values)
+        }
         Directive::Resb => {
             let item = read_reserve(alloc, &mut operands.number, names, tokens)?;
             push_some(entries, state, item)
         }
         Directive::Align => push_some(entries, state, read_align(tokens)),
         Directive::Equ => {
+            let label = context.label;
             let item = read_equ(alloc, &mut operands.number, names, label, tokens)?;
             push_some(entries, state, item)
         }
@@ -346,34 +358,32 @@ pub fn push_statement<'a>(
     operands: &mut Operands<'a>,
     names: &mut Names<'a>,
     entries: &mut EntryList<'a>,
-    state: SourceState,
-    label: Option<Definition<'a>>,
     statement: Statement,
-    tokens: &[Token<'a>],
+    context: Context<'a, '_>,
 ) -> Result<(), SourceFault>
     ensures scope { names.new.scope ≡ names.old.scope }
     ensures grows { Grows names.old names.new }
     ensures entries { (r : Reading) → IsNaming r.naming names.new → MatchResult result
         (λ _. statement_onto (map (entry_content r) entries.old.list.items)
-        (state_content names.old.scope.text.now state) (option_map (definition_name r) label.entry) statement
-        (map lexeme_of tokens.now) ≡ Some (map (entry_content r) entries.new.list.items))
+        (state_content names.old.scope.text.now context.entry.state)
+        (option_map (definition_name r) context.entry.label) statement (map lexeme_of context.entry.tokens.now)
+        ≡ Some (map (entry_content r) entries.new.list.items))
         (IsBad (statement_onto (map (entry_content r) entries.old.list.items)
-        (state_content names.old.scope.text.now state) (option_map (definition_name r) label.entry) statement
-        (map lexeme_of tokens.now)) state.line) }
+        (state_content names.old.scope.text.now context.entry.state)
+        (option_map (definition_name r) context.entry.label) statement (map lexeme_of context.entry.tokens.now))
+        context.entry.state.line) }
 {
     match statement {
         Statement::Nothing => Ok(()),
         Statement::Code(lock, mnemonic) => {
-            let item = read_code(alloc, operands, names, lock, mnemonic, tokens)?;
-            push_some(entries, state, item)
+            let item = read_code(alloc, operands, names, lock, mnemonic, context.tokens)?;
+            push_some(entries, context.state, item)
         }
         Statement::Directive(directive) => {
-            push_directive(
-                alloc, operands, names, entries, state, label, directive, tokens,
-            )
+            push_directive(alloc, operands, names, entries, directive, context)
         }
         Statement::Unfit => Err(SourceFault::Line {
-            line: state.line,
+            line: context.state.line,
             why: Why::BadOperand,
         }),
     }

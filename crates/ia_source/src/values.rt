@@ -21,6 +21,17 @@ use ia_lex::{Expression, Token};
 use ia_names::Names;
 use std::alloc::{AllocError, Global};
 
+/// A value of `db` or `dd`, or more of them with commas between.
+#[derive(Clone, Copy)]
+pub struct ValueTokens<'a, 't> {
+    /// What their line has to know of the lines above.
+    pub state: SourceState,
+    /// Whether they are doublewords.
+    pub long: bool,
+    /// Their tokens.
+    pub tokens: &'t [Token<'a>],
+}
+
 /// The number that a value is, where it stands without a sign and has a place there.
 fn plain_number(long: bool, tokens: &[Token]) -> Option<u32>
     ensures number { result ≡ plain_number long (map lexeme_of tokens.now) }
@@ -92,28 +103,27 @@ fn push_value<'a>(
     names: &mut Names<'a>,
     entries: &mut EntryList<'a>,
     run: &mut Vec<u8>,
-    state: SourceState,
-    long: bool,
-    tokens: &[Token<'a>],
+    value: ValueTokens<'a, '_>,
 ) -> Result<(), SourceFault>
     ensures scope { names.new.scope ≡ names.old.scope }
     ensures grows { Grows names.old names.new }
     ensures value { (r : Reading) → IsNaming r.naming names.new → MatchResult result
-        (λ _. value_onto long (state_content names.old.scope.text.now state)
-        (values_content r entries.old.list.items run.old.items) (map lexeme_of tokens.now)
+        (λ _. value_onto value.entry.long (state_content names.old.scope.text.now value.entry.state)
+        (values_content r entries.old.list.items run.old.items) (map lexeme_of value.entry.tokens.now)
         ≡ Some (values_content r entries.new.list.items run.new.items))
-        (IsBad (value_onto long (state_content names.old.scope.text.now state)
-        (values_content r entries.old.list.items run.old.items) (map lexeme_of tokens.now)) state.line) }
+        (IsBad (value_onto value.entry.long (state_content names.old.scope.text.now value.entry.state)
+        (values_content r entries.old.list.items run.old.items) (map lexeme_of value.entry.tokens.now))
+        value.entry.state.line) }
 {
-    match plain_number(long, tokens) {
+    match plain_number(value.long, value.tokens) {
         Some(number) => {
-            push_number(run, long, number)?;
+            push_number(run, value.long, number)?;
             Ok(())
         }
         None => {
-            push_run(alloc, entries, run, state)?;
-            let item = read_value(alloc, terms, names, long, tokens)?;
-            push_some(entries, state, item)
+            push_run(alloc, entries, run, value.state)?;
+            let item = read_value(alloc, terms, names, value.long, value.tokens)?;
+            push_some(entries, value.state, item)
         }
     }
 }
@@ -124,40 +134,36 @@ pub fn push_values<'a>(
     terms: &mut Expression<'a>,
     names: &mut Names<'a>,
     entries: &mut EntryList<'a>,
-    state: SourceState,
-    long: bool,
-    tokens: &[Token<'a>],
+    values: ValueTokens<'a, '_>,
 ) -> Result<(), SourceFault>
     ensures scope { names.new.scope ≡ names.old.scope }
     ensures grows { Grows names.old names.new }
     ensures values { (r : Reading) → IsNaming r.naming names.new → MatchResult result
-        (λ _. values_onto long (state_content names.old.scope.text.now state)
-        (no_value (map (entry_content r) entries.old.list.items)) (between_commas (map lexeme_of tokens.now))
+        (λ _. values_onto values.entry.long (state_content names.old.scope.text.now values.entry.state)
+        (no_value (map (entry_content r) entries.old.list.items))
+        (between_commas (map lexeme_of values.entry.tokens.now))
         ≡ Some (map (entry_content r) entries.new.list.items))
-        (IsBad (values_onto long (state_content names.old.scope.text.now state)
-        (no_value (map (entry_content r) entries.old.list.items)) (between_commas (map lexeme_of tokens.now)))
-        state.line) }
+        (IsBad (values_onto values.entry.long (state_content names.old.scope.text.now values.entry.state)
+        (no_value (map (entry_content r) entries.old.list.items))
+        (between_commas (map lexeme_of values.entry.tokens.now)))
+        values.entry.state.line) }
 {
     let mut run = Vec::new(alloc);
     let mut place = 0;
-    while place <= tokens.len() {
-        let left = &tokens[place..];
+    while place <= values.tokens.len() {
+        let left = &values.tokens[place..];
         let end = comma_index(left);
-        match push_value(
-            alloc,
-            terms,
-            names,
-            entries,
-            &mut run,
-            state,
-            long,
-            &left[..end],
-        ) {
+        let value = ValueTokens {
+            state: values.state,
+            long: values.long,
+            tokens: &left[..end],
+        };
+        match push_value(alloc, terms, names, entries, &mut run, value) {
             Ok(()) => {}
             Err(fault) => return Err(fault),
         }
         place += end + 1;
     }
-    push_run(alloc, entries, &mut run, state)?;
+    push_run(alloc, entries, &mut run, values.state)?;
     Ok(())
 }

@@ -77,6 +77,11 @@ with_lines order (l ∷ ls) = with_lines (with_line order l) ls
 abbrev pub Keep : List ℕ → List ℕ → Type 0
 Keep before after = (slot : ℕ) → IsSome (place_of before slot) → place_of after slot ≡ place_of before slot
 
+-- the same lines in the same order, with the same slots and room for as many: at most bytes on them differ
+abbrev pub AreSameLines : BufferValue → BufferValue → Type 0
+AreSameLines before after =
+    (after.order ≡ before.order) × (after.slots ≡ before.slots) × (after.room ≡ before.room)
+
 -- The slot given for a line is below the room. Where the line is new the slot is not in use,
 -- and else the line holds it.
 abbrev pub IsSlotOf : BufferValue → ℕ → Option ℕ → Type 0

@@ -14,8 +14,8 @@ ghost use Rattle.ia_word.specs.Width.{bits_of, bytes_of};
 ghost use Rattle.ia_word.specs.Line.{line, last_line, lines};
 ghost use Rattle.ia_word.specs.Operand.{operand_bytes, operand_of, placed_bytes};
 ghost use Rattle.tm_buffer.specs.Buffer.{Fits, with_bytes, laid_over, memory_with, lines_of, holds, place_of};
-ghost use Rattle.tm_buffer.specs.Buffer.{with_line};
-ghost use Rattle.tm_buffer.specs.Buffer.{with_lines, IsSlotOf, IsSlotOrNone, Keep, first_slot, last_slot, slots_for};
+ghost use Rattle.tm_buffer.specs.Buffer.{AreSameLines, IsSlotOf, IsSlotOrNone, Keep, first_slot, last_slot};
+ghost use Rattle.tm_buffer.specs.Buffer.{slots_for, with_line, with_lines};
 
 use crate::fault::{Full, NoMemory};
 use crate::slots::{byte_in, drain, place_in, run_in};
@@ -328,9 +328,7 @@ impl Buffer {
         requires one { last_line address width ≡ line address }
         ensures bytes { self.new.bytes
             ≡ with_bytes self.old.bytes (placed_bytes address (operand_bytes width value)) }
-        ensures order { self.new.order ≡ self.old.order }
-        ensures slots { self.new.slots ≡ self.old.slots }
-        ensures room { self.new.room ≡ self.old.room }
+        ensures lines { AreSameLines self.old self.new }
     {
         match width {
             Width::B => self.write_at(place, address, value as u8),
@@ -555,9 +553,7 @@ impl Buffer {
     fn write_at(&mut self, place: usize, address: u32, byte: u8)
         requires { place_of self.old.order (line address) ≡ Some place }
         ensures bytes { self.new.bytes ≡ bytes_map.insert self.old.bytes address byte }
-        ensures order { self.new.order ≡ self.old.order }
-        ensures slots { self.new.slots ≡ self.old.slots }
-        ensures room { self.new.room ≡ self.old.room }
+        ensures lines { AreSameLines self.old self.new }
     {
         let offset = address as usize % 64;
         self.masks[place] = self.masks[place] | 1 << offset;
@@ -572,9 +568,7 @@ impl Buffer {
         requires one { line (address + 3) ≡ line address }
         ensures bytes { self.new.bytes ≡ with_bytes self.old.bytes (placed_bytes address (slice_index bytes 0
             ∷ slice_index bytes 1 ∷ slice_index bytes 2 ∷ slice_index bytes 3 ∷ [])) }
-        ensures order { self.new.order ≡ self.old.order }
-        ensures slots { self.new.slots ≡ self.old.slots }
-        ensures room { self.new.room ≡ self.old.room }
+        ensures lines { AreSameLines self.old self.new }
     {
         let offset = address as usize % 64;
         let [low, second, third, high] = bytes;
@@ -592,9 +586,7 @@ impl Buffer {
         requires first { place_of self.old.order (line address) ≡ Some first }
         requires last { place_of self.old.order (line (address + 3)) ≡ Some last }
         ensures bytes { self.new.bytes ≡ with_bytes self.old.bytes (placed_bytes address bytes) }
-        ensures order { self.new.order ≡ self.old.order }
-        ensures slots { self.new.slots ≡ self.old.slots }
-        ensures room { self.new.room ≡ self.old.room }
+        ensures lines { AreSameLines self.old self.new }
     {
         let [low, second, third, high] = bytes;
         self.write_at(last, address + 3, high);
@@ -607,9 +599,7 @@ impl Buffer {
     fn write(&mut self, address: u32, byte: u8)
         requires { IsTrue (holds self.old.order (line address)) }
         ensures bytes { self.new.bytes ≡ bytes_map.insert self.old.bytes address byte }
-        ensures order { self.new.order ≡ self.old.order }
-        ensures slots { self.new.slots ≡ self.old.slots }
-        ensures room { self.new.room ≡ self.old.room }
+        ensures lines { AreSameLines self.old self.new }
     {
         let place = self.place(line_of(address)).unwrap();
         self.write_at(place, address, byte);
@@ -622,9 +612,7 @@ impl Buffer {
         requires first { IsTrue (holds self.old.order (line address)) }
         requires last { IsTrue (holds self.old.order (last_line address Width.D)) }
         ensures bytes { self.new.bytes ≡ with_bytes self.old.bytes (placed_bytes address bytes) }
-        ensures order { self.new.order ≡ self.old.order }
-        ensures slots { self.new.slots ≡ self.old.slots }
-        ensures room { self.new.room ≡ self.old.room }
+        ensures lines { AreSameLines self.old self.new }
     {
         let first = self.place(line_of(address)).unwrap();
         let last = self.place(line_of(address + 3)).unwrap();

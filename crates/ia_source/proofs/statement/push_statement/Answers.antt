@@ -10,13 +10,13 @@ use Rattle.ia_source.proofs.statement.push_statement.Goals as goal
 pub returns-in_ok-item-in-Code-clause-entries : goal.returns-in_ok-item-in-Code-clause-entries
 returns-in_ok-item-in-Code-clause-entries c r h =
     let scope = c.args.names.now.scope.text.now in
-    let at = state_content scope c.args.state in
+    let at = state_content scope c.args.context.state in
     let es = map (entry_content r) c.args.entries.now.list.items in
-    let name = option_map (definition_name r) c.args.label in
-    let ts = map lexeme_of c.args.tokens.now in
+    let name = option_map (definition_name r) c.args.context.label in
+    let ts = map lexeme_of c.args.context.tokens.now in
     told c.push_some.result (add_some es at (option_map (item_content r) c.in_ok-item-in-Code.item))
     (statement_onto es at name c.args.statement ts) (map (entry_content r) c.push_some.new.entries.list.items)
-    c.args.state.line
+    c.args.context.state.line
     (ap (λ (w : Statement). statement_onto es at name w ts) c.in-Code.is
     ∙ ap (add_some es at) (sym (c.in_ok-item-in-Code.ensures.item r h)))
     (c.push_some.ensures r scope)

@@ -11,6 +11,6 @@ returns-clause-lines c =
     ∙ c.line_of-line.ensures in
     ap (λ h. lines_of h.order) c.self.view_is
     ∙ ap lines_of
-    (c.write_in.ensures.order ∙ c.in_ok-place.ensures.order
+    (c.write_in.ensures.lines.0 ∙ c.in_ok-place.ensures.order
     ∙ ap (with_line c.args.self.now.order) c.line_of-line.ensures)
     ∙ one_given c.args.self.now.order (line c.args.address) (last_line c.args.address c.args.width) one

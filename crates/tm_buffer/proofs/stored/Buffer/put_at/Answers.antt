@@ -47,14 +47,15 @@ pub returns-in-B-clause-lines : goal.returns-in-B-clause-lines
 returns-in-B-clause-lines c =
     let byte : line (c.args.address + (1 - 1)) ≡ line c.args.address = omega arith in
     ap lines_of
-    (c.write_at.ensures.order ∙ c.take_at-place.ensures.order ∙ ap (with_line c.args.self.now.order) c.line_of.ensures)
+    (c.write_at.ensures.lines.0 ∙ c.take_at-place.ensures.order
+    ∙ ap (with_line c.args.self.now.order) c.line_of.ensures)
     ∙ one_given c.args.self.now.order (line c.args.address) (last_line c.args.address c.args.width)
     (ap (last_line c.args.address) c.in-B.is ∙ byte)
 
 pub returns-then-end-line_of-clause-lines : goal.returns-then-end-line_of-clause-lines
 returns-then-end-line_of-clause-lines c =
     ap lines_of
-    (c.write_run.ensures.order ∙ c.take_at-place-in-D.ensures.order
+    (c.write_run.ensures.lines.0 ∙ c.take_at-place-in-D.ensures.order
     ∙ ap (with_line c.args.self.now.order) c.line_of-in-D.ensures)
     ∙ one_given c.args.self.now.order (line c.args.address) (last_line c.args.address c.args.width)
     (ap (last_line c.args.address) c.in-D.is ∙ sym c.line_of-end.ensures ∙ c.if-end-line_of.true
@@ -64,7 +65,7 @@ pub returns-else-end-line_of-clause-lines : goal.returns-else-end-line_of-clause
 returns-else-end-line_of-clause-lines c =
     let end : c.line_of-end.result ≡ last_line c.args.address c.args.width =
     c.line_of-end.ensures ∙ sym (ap (last_line c.args.address) c.in-D.is) in
-    ap lines_of (c.write_over_end.ensures.order ∙ c.take_at-last.ensures.order
+    ap lines_of (c.write_over_end.ensures.lines.0 ∙ c.take_at-last.ensures.order
     ∙ ap (λ xs. with_line xs c.line_of-end.result)
     (c.take_at-place-in-D.ensures.order ∙ ap (with_line c.args.self.now.order) c.line_of-in-D.ensures)
     ∙ ap (with_line (with_line c.args.self.now.order (line c.args.address))) end)
