@@ -246,6 +246,29 @@ module _ {M : Type 0} where
       (subst (λ (u : Me M (SeatView M)). Joins {S = M} {V = SeatView M} (λ s. ViewsAgree s.views) id (keeper_of all)
       other u.0 (keeper_with all u.0.line u.0.progress) spent_view) (sym are) (takes id all other line n))
 
+  -- the ledger behind its steps
+  pub opened_as : (me after : Me M (SeatView M)) (m : M) → me ≡ (keeper_of me.0.all, [])
+      → after ≡ (keeper_with (me.0.all ++ m ∷ []) (length me.0.all) (Some m), me.1)
+      → after ≡ (keeper_with (me.0.all ++ m ∷ []) (length me.0.all) (Some m), [])
+  opened_as me after m is opened =
+      opened ∙ ap (λ (u : Me M (SeatView M)). (keeper_with (me.0.all ++ m ∷ []) (length me.0.all) (Some m), u.1)) is
+
+  pub taken_as : (me held : Me M (SeatView M)) (line : ℕ) (progress : Option M) (n : M) → me ≡ (keeper_of me.0.all, [])
+      → progress ≡ Some n → held ≡ (keeper_with me.0.all line progress, me.1)
+      → held ≡ (keeper_with me.0.all line (Some n), [])
+  taken_as me held line progress n is has took =
+      took ∙ ap (λ (p : Option M). (keeper_with me.0.all line p, me.1)) has
+      ∙ ap (λ (u : Me M (SeatView M)). (keeper_with me.0.all line (Some n), u.1)) is
+
+  pub noted_as : (me held after : Me M (SeatView M)) (line : ℕ) (progress : Option M) (n m : M)
+      → me ≡ (keeper_of me.0.all, []) → progress ≡ Some n → held ≡ (keeper_with me.0.all line progress, me.1)
+      → after ≡ (keeper_with (slice_set held.0.all held.0.line m) held.0.line (Some m), held.1)
+      → after ≡ (keeper_with (slice_set me.0.all line m) line (Some m), [])
+  noted_as me held after line progress n m is has took noted =
+      noted ∙ ap
+      (λ (u : Me M (SeatView M)). (keeper_with (slice_set u.0.all u.0.line m) u.0.line (Some m), u.1))
+      (taken_as me held line progress n is has took)
+
   pub keeper_again : (me : Me M (SeatView M)) (all : List M) → me ≡ (keeper_of all, []) → me ≡ (keeper_of me.0.all, [])
   keeper_again me all is =
       is ∙ ap (λ (l : List M). (keeper_of l, [])) (sym (ap (λ (u : Me M (SeatView M)). u.0.all) is))

@@ -1,10 +1,10 @@
 -- What seats know of a board, and when a ledger of that agrees with the board (docs/CLAIMS.md, "Histories and
 -- workers").
 use Rattle.std.specs.Prelude.{◌≡◌, ◌≢◌, ◌⊎◌, ⊤, ℕ, ◌+◌, ◌<◌, ◌≤◌, ◌==◌, Bool, true, false, List, [], ◌∷◌, ◌++◌, length}
-use Rattle.std.specs.Prelude.{All, count_by, drop, Option, Some, None, slice_get, slice_set}
+use Rattle.std.specs.Prelude.{All, count_by, drop, IfNone, IfSome, Option, Some, None, slice_get, slice_set}
 use Rattle.tm_model.specs.declared.outcome.Outcome.{Outcome}
 use Rattle.tm_model.specs.declared.outcome.Outcome.TheVariants.{Idle}
-use Rattle.tm_hist.specs.Board.{ShownBoard, SameBoard, IsStopped, IsFull}
+use Rattle.tm_hist.specs.Board.{ShownBoard, SameBoard, IsHistory, IsStopped, IsFull}
 use Rattle.tm_model.specs.Runs.{TellNoAbort}
 use Rattle.tm_pick.specs.declared.events.Events.{Events}
 use Rattle.tm_work.specs.Events.{TellDrawn}
@@ -118,6 +118,30 @@ pub record AreStepsMade (before after : ShownBoard) (core : ℕ) (was now : Prog
   pub same : made ≡ 0 → now.last ≡ was.last
   pub alone : (given : ShownBoard) → GoesOn given before → (part : List (ℕ × Outcome))
       × (new_part given after ≡ new_part given before ++ part) × TellNoAbort part
+
+-- a turn of a seat: a step, whose receipt is of a later one than the seat had and of none that is idle, or none at the
+-- end
+pub record IsTurn (before : SeatProgress) (made : Option Receipt) (after : SeatProgress) : Type 0 where
+  pub core : after.core ≡ before.core
+  pub some : IfSome made (λ receipt. after.progress ≡ progress_after_step before.progress receipt)
+  pub going : IfSome made (λ receipt. receipt.outcome ≢ Idle)
+  pub later : IfSome made (λ receipt. IfSome before.progress.last (λ last. last.index < receipt.index))
+  pub none : IfNone made (after.progress ≡ progress_at_end before.progress)
+
+-- up to so many turns of a seat, of which so many made a step: fewer only where one made none
+pub record AreTurns (before : SeatProgress) (asked made : ℕ) (after : SeatProgress) : Type 0 where
+  pub core : after.core ≡ before.core
+  pub most : made ≤ asked
+  pub steps : after.progress.steps ≡ before.progress.steps + made
+  pub fewer : made < asked → after.progress.ended ≡ true
+  pub all : made ≡ asked → after.progress.ended ≡ before.progress.ended
+
+-- what the turns at a desk made of the board given: its history goes on, its machine is the run of it, and its aborts
+-- from outside of the program are of these events
+pub record IsWorkedOn (events : Events) (given board : ShownBoard) : Type 0 where
+  pub goes_on : GoesOn given board
+  pub disturbed : IsDisturbed events given board
+  pub run : IsHistory board
 
 -- no seat had a turn
 abbrev pub HaveNoProgress : List Progress → Type 0

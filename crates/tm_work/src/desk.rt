@@ -4,15 +4,11 @@
 //! while they have the lock; [`Desk::close`] takes the board back and holds the seats against the ledger. How a
 //! step is made and noted stands in `desk_state`. Threads are started by `workers`: a desk knows of none.
 
-ghost use Rattle.std.specs.Prelude.{◌≡◌, ◌≢◌, ◌+◌, ◌<◌, ◌≤◌, true, ◌++◌, ◌∷◌, [], length, All, IfOk, IfErr, IfSome};
-ghost use Rattle.std.specs.Prelude.{IfNone};
-ghost use Rattle.std.specs.Prelude.{None};
-ghost use Rattle.tm_model.specs.declared.outcome.Outcome.{Outcome};
+ghost use Rattle.std.specs.Prelude.{◌≡◌, ◌<◌, ◌++◌, ◌∷◌, [], length, All, IfOk, IfErr, IfSome, None};
 ghost use Rattle.tm_model.specs.Runs.{event_told};
-ghost use Rattle.tm_hist.specs.Board.{IsHistory};
 ghost use Rattle.tm_pick.specs.Drawn.{AreDrawn};
-ghost use Rattle.tm_work.specs.Seats.{AreSeats, GoesOn, IsDisturbed, IsLater, SeatTells};
-ghost use Rattle.tm_work.specs.Seats.{no_progress, seat_with, progress_after_step, progress_at_end};
+ghost use Rattle.tm_work.specs.Seats.{AreSeats, AreTurns, IsLater, IsTurn, IsWorkedOn, SeatTells, no_progress};
+ghost use Rattle.tm_work.specs.Seats.{seat_with};
 ghost use Rattle.tm_work.specs.Faults.{board_in, IsNoMemory};
 
 use crate::desk_state::DeskState;
@@ -66,12 +62,8 @@ impl<J: DeskIdentity> Desk<J> {
     /// is stopped or the history full. So no step is idle. The receipt is then the seat's last one, and its index is
     /// greater than that of the one before.
     pub fn turn(&self, rt: &impl Wait, seat: &mut Seat<J>) -> Option<Receipt>
-        ensures core { seat.new.core ≡ seat.old.core }
-        ensures some { IfSome result (λ r. seat.new.progress ≡ progress_after_step seat.old.progress r) }
-        ensures going { IfSome result (λ r. r.outcome ≢ Outcome.Idle) }
+        ensures turn { IsTurn seat.old result seat.new }
         ensures alone { IfSome result (λ r. event_told r.outcome ≡ None) }
-        ensures later { IfSome result (λ r. IfSome seat.old.progress.last (λ q. q.index < r.index)) }
-        ensures none { IfNone result (seat.new.progress ≡ progress_at_end seat.old.progress) }
     {
         self.state.lock(rt).turn(seat, None)
     }
@@ -79,13 +71,9 @@ impl<J: DeskIdentity> Desk<J> {
     /// Up to so many turns of the seat's core under one lock, and how many steps they made: fewer only where the core
     /// stopped or the history is full, as `turn` finds it. The receipt of the last of these steps is then the seat's.
     pub fn turns(&self, rt: &impl Wait, seat: &mut Seat<J>, most: u32) -> u32
-        ensures core { seat.new.core ≡ seat.old.core }
-        ensures most { result ≤ most }
-        ensures steps { seat.new.progress.steps ≡ seat.old.progress.steps + result }
+        ensures turns { AreTurns seat.old most result seat.new }
         ensures later { 0 < result → IsLater seat.old.progress.last seat.new.progress.last }
         ensures none { result ≡ 0 → seat.new.progress.last ≡ seat.old.progress.last }
-        ensures fewer { result < most → seat.new.progress.ended ≡ true }
-        ensures all { result ≡ most → seat.new.progress.ended ≡ seat.old.progress.ended }
     {
         self.held_for(rt, seat).turns(seat, most)
     }
@@ -101,11 +89,7 @@ impl<J: DeskIdentity> Desk<J> {
     ) -> u32
         requires events { AreDrawn J.events events.old }
         ensures kinds { events.new ≡ events.old }
-        ensures core { seat.new.core ≡ seat.old.core }
-        ensures most { result ≤ most }
-        ensures steps { seat.new.progress.steps ≡ seat.old.progress.steps + result }
-        ensures fewer { result < most → seat.new.progress.ended ≡ true }
-        ensures all { result ≡ most → seat.new.progress.ended ≡ seat.old.progress.ended }
+        ensures turns { AreTurns seat.old most result seat.new }
     {
         self.held_for(rt, seat).turns_under(seat, most, events)
     }
@@ -129,9 +113,7 @@ impl<J: DeskIdentity> Desk<J> {
     /// program is of the events that turns may come under, and what these seats say is so. Of a core whose seat is not
     /// handed in, no contract says how many of the steps are its own.
     pub fn close(self, seats: Vec<Seat<J>>) -> Board
-        ensures goes_on { GoesOn J.given result }
-        ensures events { IsDisturbed J.events J.given result }
-        ensures run { IsHistory result }
+        ensures worked { IsWorkedOn J.events J.given result }
         ensures seats { All (SeatTells J.given result) seats.items }
     {
         let mut state = self.state.into_inner();
@@ -141,9 +123,7 @@ impl<J: DeskIdentity> Desk<J> {
 
     // As [`Desk::close`], of seats in two lists.
     pub(crate) fn close_both(self, seats: Vec<Seat<J>>, others: VecDeque<Seat<J>>) -> Board
-        ensures goes_on { GoesOn J.given result }
-        ensures events { IsDisturbed J.events J.given result }
-        ensures run { IsHistory result }
+        ensures worked { IsWorkedOn J.events J.given result }
         ensures seats { All (SeatTells J.given result) seats.items }
         ensures others { All (SeatTells J.given result) others.items }
     {

@@ -4,14 +4,13 @@
 //! notes them once. Where no step is to be made the seat learns that it has ended. For how long the lock is kept is
 //! decided by `desk` and `manner`.
 
-ghost use Rattle.std.specs.Prelude.{◌≡◌, ◌≢◌, ◌+◌, ◌<◌, ◌≤◌, ◌⊎◌, true, length, All, IfSome, IfNone};
-ghost use Rattle.tm_model.specs.declared.outcome.Outcome.{Outcome};
-ghost use Rattle.tm_hist.specs.Board.{IsFull, IsHistory, IsStopped, TellsOf};
+ghost use Rattle.std.specs.Prelude.{◌≡◌, ◌<◌, ◌≤◌, ◌⊎◌, true, length, All, IfSome, IfNone};
+ghost use Rattle.tm_hist.specs.Board.{IsFull, IsStopped, TellsOf};
 ghost use Rattle.tm_pick.specs.Drawn.{AreDrawn};
 ghost use Rattle.tm_pick.specs.Kinds.{IsOfKinds};
 ghost use Rattle.tm_pick.specs.declared.kinds.Kinds.{Kinds};
-ghost use Rattle.tm_work.specs.Seats.{AreStepsMade, GoesOn, HaveNoProgress, IsDisturbed, IsLast, IsLater, IsStepMade};
-ghost use Rattle.tm_work.specs.Seats.{SeatTells, Tells, progress_after_step, progress_at_end};
+ghost use Rattle.tm_work.specs.Seats.{AreStepsMade, AreTurns, HaveNoProgress, IsLast, IsLater, IsStepMade, IsTurn};
+ghost use Rattle.tm_work.specs.Seats.{IsWorkedOn, SeatTells, Tells};
 
 use crate::progress::{Progress, Receipt};
 use crate::seat::{DeskIdentity, Seat};
@@ -58,9 +57,7 @@ impl<J: DeskIdentity> DeskState<J> {
 
     pub(crate) fn into_board(self) -> Board
         ensures is { result ≡ self.0 }
-        ensures goes_on { GoesOn J.given result }
-        ensures events { IsDisturbed J.events J.given result }
-        ensures run { IsHistory result }
+        ensures worked { IsWorkedOn J.events J.given result }
     {
         let DeskState { board, ledger: _ } = self;
         board.is_run();
@@ -70,12 +67,8 @@ impl<J: DeskIdentity> DeskState<J> {
     // A step of the seat's core under this event, or under none; or a look where there is none to make.
     pub(crate) fn turn(&mut self, seat: &mut Seat<J>, event: Option<Event>) -> Option<Receipt>
         requires event { (kinds : Kinds) × AreDrawn J.events kinds × IsOfKinds kinds event }
-        ensures core { seat.new.core ≡ seat.old.core }
-        ensures some { IfSome result (λ r. seat.new.progress ≡ progress_after_step seat.old.progress r) }
-        ensures going { IfSome result (λ r. r.outcome ≢ Outcome.Idle) }
+        ensures turn { IsTurn seat.old result seat.new }
         ensures told { IfSome result (λ r. TellsOf event r.outcome) }
-        ensures later { IfSome result (λ r. IfSome seat.old.progress.last (λ q. q.index < r.index)) }
-        ensures none { IfNone result (seat.new.progress ≡ progress_at_end seat.old.progress) }
     {
         let DeskState { board, ledger } = self;
         let Some(receipt) = try_step(board, seat.core(), event) else {
@@ -101,13 +94,9 @@ impl<J: DeskIdentity> DeskState<J> {
     // Up to so many turns of a seat, and how many made a step: fewer where one made none. The ledger hears of them
     // once, at the end.
     pub(crate) fn turns(&mut self, seat: &mut Seat<J>, most: u32) -> u32
-        ensures core { seat.new.core ≡ seat.old.core }
-        ensures most { result ≤ most }
-        ensures steps { seat.new.progress.steps ≡ seat.old.progress.steps + result }
+        ensures turns { AreTurns seat.old most result seat.new }
         ensures later { 0 < result → IsLater seat.old.progress.last seat.new.progress.last }
         ensures none { result ≡ 0 → seat.new.progress.last ≡ seat.old.progress.last }
-        ensures fewer { result < most → seat.new.progress.ended ≡ true }
-        ensures all { result ≡ most → seat.new.progress.ended ≡ seat.old.progress.ended }
     {
         let DeskState { board, ledger } = self;
         let mut progress = seat.progress();
@@ -125,11 +114,7 @@ impl<J: DeskIdentity> DeskState<J> {
     ) -> u32
         requires events { AreDrawn J.events events.old }
         ensures kinds { events.new ≡ events.old }
-        ensures core { seat.new.core ≡ seat.old.core }
-        ensures most { result ≤ most }
-        ensures steps { seat.new.progress.steps ≡ seat.old.progress.steps + result }
-        ensures fewer { result < most → seat.new.progress.ended ≡ true }
-        ensures all { result ≡ most → seat.new.progress.ended ≡ seat.old.progress.ended }
+        ensures turns { AreTurns seat.old most result seat.new }
     {
         let mut made = 0;
         while made < most {

@@ -30,7 +30,8 @@ returns-in-None-clause-report g c =
     let done_len : vec_len done ≡ length done.items = search rules in
     let steps_len : vec_len steps ≡ length steps.items = search rules in
     subst (λ (y : ShownBoard). IsReport y budgets c.close-board.result steps.items) (sym c.requires.given)
-    (report_of g.J.DeskIdentity.given c.close-board.result budgets done.items steps.items b.goes_on b.run b.seats v.done
+    (report_of g.J.DeskIdentity.given c.close-board.result budgets done.items steps.items
+    b.worked.goes_on b.worked.run b.seats v.done
     (sym done_len ∙ all) (sym steps_len ∙ count ∙ done_len) s.each)
 
 pub returns-in-Some-clause-fault : goal.returns-in-Some-clause-fault
@@ -47,7 +48,8 @@ returns-in-Some-clause-fault g c =
     let less = rest.0 in
     subst (λ (y : ShownBoard). IsRefused y budgets c.len-core.result c.close_both.result) (sym c.requires.given)
     (refused_of g.J.DeskIdentity.given c.close_both.result budgets done.items left.items c.len-core.result
-    (c.len-core.ensures ∙ done_len) b.goes_on b.run b.seats b.others v.done (omega (arith, less, done_len))
+    (c.len-core.ensures ∙ done_len) b.worked.goes_on b.worked.run b.seats b.others v.done
+    (omega (arith, less, done_len))
     (subst (λ k. AreLeft left.items (k + 1) (length budgets)) done_len rest.1))
 
 pub returns-in_err-desk-clause-fault_events : goal.returns-in_err-desk-clause-fault_events

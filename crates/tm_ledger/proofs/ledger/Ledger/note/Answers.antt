@@ -1,8 +1,8 @@
 use Rattle.std.proofs.Common.{[], Some, refl, sym, ap, ◌∙◌, arith, eqb}
 use prog.Atomic.{either}
-use Rattle.std.specs.Prelude.{slice_set, slice_get}
-use Rattle.tm_ledger.specs.Rules.{keeper_of, keeper_with, token_of}
-use Rattle.tm_ledger.proofs.Moves.{takes_as, notes_as, gives_as, keeper_again, token_again, if_some}
+use Rattle.std.specs.Prelude.{slice_get}
+use Rattle.tm_ledger.specs.Rules.{keeper_of, token_of}
+use Rattle.tm_ledger.proofs.Moves.{gives_as, if_some, keeper_again, noted_as, notes_as, taken_as, takes_as, token_again}
 use Rattle.tm_ledger.proofs.ledger.Ledger.note.Goals as goal
 
 pub join_seat-requires : goal.join_seat-requires
@@ -17,10 +17,7 @@ compare_exchange_with-requires g c =
     let i = c.self.invariant in
     let k = c.token.invariant in
     let j = c.join_seat.ensures in
-    let line = c.token.inside.seat.me.0.line in
-    let all = c.self.inside.keeper.me.0.all in
-    let held = j.2 ∙ ap (λ m. (keeper_with all line m, c.self.inside.keeper.me.1)) k.2.1
-    ∙ ap (λ r. (keeper_with all line (Some k.2.0), r)) (ap (λ u. u.1) i.3) in
+    let held = taken_as _ _ _ _ _ i.3 k.2.1 j.2 in
     (j.0 ∙ i.2, omega arith, notes_as _ _ _ _ _ _ c.args.now.now (λ n. either (eqb n 0) 0 n) held)
 
 pub split_seat-seat-requires : goal.split_seat-seat-requires
@@ -29,12 +26,7 @@ split_seat-seat-requires g c =
     let k = c.token.invariant in
     let j = c.join_seat.ensures in
     let s = c.compare_exchange_with.ensures in
-    let line = c.token.inside.seat.me.0.line in
-    let all = c.self.inside.keeper.me.0.all in
-    let m = c.args.now.now in
-    let held = j.2 ∙ ap (λ m. (keeper_with all line m, c.self.inside.keeper.me.1)) k.2.1
-    ∙ ap (λ r. (keeper_with all line (Some k.2.0), r)) (ap (λ u. u.1) i.3) in
-    let noted = s.2.1 m refl ∙ ap (λ u. (keeper_with (slice_set u.0.all u.0.line m) u.0.line (Some m), u.1)) held in
+    let noted = noted_as _ _ _ _ _ _ c.args.now.now i.3 k.2.1 j.2 (s.2.1 c.args.now.now refl) in
     (s.0 ∙ j.0 ∙ i.2, omega arith, gives_as _ _ _ _ _ noted)
 
 pub invariant_of-self : goal.invariant_of-self
@@ -44,12 +36,7 @@ invariant_of-self g c =
     let j = c.join_seat.ensures in
     let s = c.compare_exchange_with.ensures in
     let t = c.split_seat-seat.ensures in
-    let line = c.token.inside.seat.me.0.line in
-    let all = c.self.inside.keeper.me.0.all in
-    let m = c.args.now.now in
-    let held = j.2 ∙ ap (λ m. (keeper_with all line m, c.self.inside.keeper.me.1)) k.2.1
-    ∙ ap (λ r. (keeper_with all line (Some k.2.0), r)) (ap (λ u. u.1) i.3) in
-    let noted = s.2.1 m refl ∙ ap (λ u. (keeper_with (slice_set u.0.all u.0.line m) u.0.line (Some m), u.1)) held in
+    let noted = noted_as _ _ _ _ _ _ c.args.now.now i.3 k.2.1 j.2 (s.2.1 c.args.now.now refl) in
     (i.0, i.1, t.0 ∙ s.0 ∙ j.0 ∙ i.2, keeper_again _ _ (t.2 ∙ ap (λ u. (keeper_of u.0.all, u.1)) noted))
 
 pub invariant_of-result : goal.invariant_of-result
@@ -59,14 +46,9 @@ invariant_of-result g c =
     let j = c.join_seat.ensures in
     let s = c.compare_exchange_with.ensures in
     let t = c.split_seat-seat.ensures in
-    let line = c.token.inside.seat.me.0.line in
-    let all = c.self.inside.keeper.me.0.all in
-    let m = c.args.now.now in
-    let held = j.2 ∙ ap (λ m. (keeper_with all line m, c.self.inside.keeper.me.1)) k.2.1
-    ∙ ap (λ r. (keeper_with all line (Some k.2.0), r)) (ap (λ u. u.1) i.3) in
-    let noted = s.2.1 m refl ∙ ap (λ u. (keeper_with (slice_set u.0.all u.0.line m) u.0.line (Some m), u.1)) held in
+    let noted = noted_as _ _ _ _ _ _ c.args.now.now i.3 k.2.1 j.2 (s.2.1 c.args.now.now refl) in
     let mine = t.4 ∙ ap (λ u. (token_of u.0.line u.0.progress, [])) noted in
-    (t.3 ∙ s.0 ∙ j.0 ∙ i.2 ∙ i.0, token_again _ _ _ mine, (m, ap (λ u. u.0.progress) mine))
+    (t.3 ∙ s.0 ∙ j.0 ∙ i.2 ∙ i.0, token_again _ _ _ mine, (c.args.now.now, ap (λ u. u.0.progress) mine))
 
 pub returns-clause-was : goal.returns-clause-was
 returns-clause-was g c =
@@ -87,11 +69,6 @@ returns-clause-token g c =
     let j = c.join_seat.ensures in
     let s = c.compare_exchange_with.ensures in
     let t = c.split_seat-seat.ensures in
-    let line = c.token.inside.seat.me.0.line in
-    let all = c.self.inside.keeper.me.0.all in
-    let m = c.args.now.now in
-    let held = j.2 ∙ ap (λ m. (keeper_with all line m, c.self.inside.keeper.me.1)) k.2.1
-    ∙ ap (λ r. (keeper_with all line (Some k.2.0), r)) (ap (λ u. u.1) i.3) in
-    let noted = s.2.1 m refl ∙ ap (λ u. (keeper_with (slice_set u.0.all u.0.line m) u.0.line (Some m), u.1)) held in
+    let noted = noted_as _ _ _ _ _ _ c.args.now.now i.3 k.2.1 j.2 (s.2.1 c.args.now.now refl) in
     let mine = t.4 ∙ ap (λ u. (token_of u.0.line u.0.progress, [])) noted in
-    ap (λ u. (u.0.line, u.0.progress)) mine ∙ ap (λ v. (v.0, Some m)) c.token.view_is
+    ap (λ u. (u.0.line, u.0.progress)) mine ∙ ap (λ v. (v.0, Some c.args.now.now)) c.token.view_is

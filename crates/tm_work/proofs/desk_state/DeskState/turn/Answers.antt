@@ -33,17 +33,18 @@ invariant_of-self-2 g c =
           drawn.1 drawn.2 c.in-Some.ensures.told c.self.invariant.1,
     )
 
-pub returns-clause-some : goal.returns-clause-some
-returns-clause-some g c =
+pub returns-clause-turn : goal.returns-clause-turn
+returns-clause-turn g c =
     let n = c.note-2.ensures in
     let seat = c.args.seat.now in
     let m = c.in-Some.ensures.some in
     let fits = no_wrap _ _ _ _ seat.progress c.self.invariant.0 n.was m.room m.limited in
-    ap (λ s. s.progress) n.seat
-    ∙ progress_of_turn seat.progress c.steps-steps.result c.in-Some.receipt c.ended.result c.steps-steps.ensures
-    c.ended.ensures fits
-
-pub returns-clause-later : goal.returns-clause-later
-returns-clause-later g c =
-    let m = c.in-Some.ensures.some in
-    last_before _ _ _ _ c.args.seat.now.progress _ c.self.invariant.0 c.note-2.ensures.was m.index
+    record {
+      core = ap (λ s. s.core) n.seat;
+      some = ap (λ s. s.progress) n.seat
+          ∙ progress_of_turn seat.progress c.steps-steps.result c.in-Some.receipt c.ended.result c.steps-steps.ensures
+          c.ended.ensures fits;
+      going = m.going;
+      later = last_before _ _ _ _ seat.progress _ c.self.invariant.0 n.was m.index;
+      none = tt;
+    }
