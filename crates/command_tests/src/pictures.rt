@@ -38,20 +38,20 @@ fn count_of(text: &str, word: &str) -> usize {
 // end.
 fn told(alloc: Global, window: Window) -> Result<Timeline, AllocError> {
     let mut timeline = Timeline::new(alloc, 2, window)?;
-    timeline.told(0, Outcome::Begun)?;
-    timeline.told(0, Outcome::Inside)?;
+    timeline.note(0, Outcome::Begun)?;
+    timeline.note(0, Outcome::Inside)?;
     let on = Some(LineUse {
         line: 6,
         is_write: true,
     });
     timeline.hit(0, 1, on)?;
-    timeline.told(1, Outcome::Plain)?;
-    timeline.told(0, Outcome::Aborted(6))?;
-    timeline.told(0, Outcome::Begun)?;
-    timeline.told(0, Outcome::Committed)?;
-    timeline.told(1, Outcome::Begun)?;
-    timeline.told(0, Outcome::Begun)?;
-    timeline.told(0, Outcome::Aborted(0xab00_0001))?;
+    timeline.note(1, Outcome::Plain)?;
+    timeline.note(0, Outcome::Aborted(6))?;
+    timeline.note(0, Outcome::Begun)?;
+    timeline.note(0, Outcome::Committed)?;
+    timeline.note(1, Outcome::Begun)?;
+    timeline.note(0, Outcome::Begun)?;
+    timeline.note(0, Outcome::Aborted(0xab00_0001))?;
     timeline.finish()?;
     Ok(timeline)
 }
@@ -86,12 +86,12 @@ fn a_small_run(rt: HostRuntime) -> Result<(), Fail> {
 // A core is aborted from outside three times, the last one with the status of a conflict.
 fn told_from_outside(alloc: Global, window: Window) -> Result<Timeline, AllocError> {
     let mut timeline = Timeline::new(alloc, 1, window)?;
-    timeline.told(0, Outcome::Begun)?;
-    timeline.told(0, Outcome::AbortedBy(Interference::Interrupt, 0))?;
-    timeline.told(0, Outcome::Begun)?;
-    timeline.told(0, Outcome::AbortedBy(Interference::Eviction, 8))?;
-    timeline.told(0, Outcome::Begun)?;
-    timeline.told(0, Outcome::AbortedBy(Interference::Snoop, 6))?;
+    timeline.note(0, Outcome::Begun)?;
+    timeline.note(0, Outcome::AbortedBy(Interference::Interrupt, 0))?;
+    timeline.note(0, Outcome::Begun)?;
+    timeline.note(0, Outcome::AbortedBy(Interference::Eviction, 8))?;
+    timeline.note(0, Outcome::Begun)?;
+    timeline.note(0, Outcome::AbortedBy(Interference::Snoop, 6))?;
     timeline.finish()?;
     Ok(timeline)
 }
@@ -225,7 +225,7 @@ fn long_run(alloc: Global, cores: u8) -> Result<Timeline, AllocError> {
         if outcome == Outcome::Aborted(6) {
             timeline.hit(core, 0, None)?;
         }
-        timeline.told(core, outcome)?;
+        timeline.note(core, outcome)?;
     }
     timeline.finish()?;
     Ok(timeline)

@@ -124,8 +124,8 @@ impl fmt::Display for Word<'_> {
     fn fmt<W: fmt::Write>(&self, f: &mut fmt::Formatter<W>) -> fmt::Result {
         match self {
             Word::Nothing => Ok(()),
-            Word::Name(name) => Told(name).fmt(f),
-            Word::Near(name) => write!(f, "; {} is near", Told(name)),
+            Word::Name(name) => QuotedName(name).fmt(f),
+            Word::Near(name) => write!(f, "; {} is near", QuotedName(name)),
             Word::Text(text) => f.write_str(text_of(text)),
             Word::Line(line) => line.fmt(f),
         }
@@ -137,9 +137,9 @@ const MOST: usize = 48;
 
 /// A name as it is told: in quotes, cut where it is long.
 #[derive(Clone, Copy)]
-struct Told<'a>(&'a [u8]);
+struct QuotedName<'a>(&'a [u8]);
 
-impl fmt::Display for Told<'_> {
+impl fmt::Display for QuotedName<'_> {
     fn fmt<W: fmt::Write>(&self, f: &mut fmt::Formatter<W>) -> fmt::Result {
         let front = self.0.get(..MOST).unwrap_or(self.0);
         let end = if front.len() < self.0.len() {

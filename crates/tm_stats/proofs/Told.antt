@@ -17,7 +17,7 @@ use Rattle.tm_stats.proofs.Bounds.{how_many-le, open_steps-le}
 use Rattle.tm_stats.proofs.OneMore.{causes_told, places_told, sizes_told}
 use Rattle.tm_stats.proofs.Same.{same_counts}
 
--- what the calls of `told` make of the counts
+-- what the calls of `note` make of the counts
 pub record IsTold (same : AbortCause → AbortCause → Bool) (old new : RunCounts) (step : Step)
     (before after length_now reads_now writes_now : ℕ) : Type 0 where
   pub steps_told : old.steps + 1 < 2 ^ 64 → new.steps ≡ old.steps + 1

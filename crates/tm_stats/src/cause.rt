@@ -1,4 +1,7 @@
 //! Why transactions abort, as it is counted.
+//!
+//! An [`AbortCause`] comes with each step that is told, from whom knows the machine. Here are the names of causes; only
+//! that of an abort from outside of the program is made out, by its outcome.
 
 ghost use Rattle.std.specs.Prelude.{◌≡◌};
 ghost use Rattle.tm_stats.specs.Causes.{cause_from_outside};

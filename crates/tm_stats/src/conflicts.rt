@@ -1,4 +1,7 @@
 //! The transactions that steps of other cores doomed.
+//!
+//! [`Conflicts::note`] takes a hit after another and counts it twice, on its line and among those that are alike;
+//! [`Conflicts::sort`] comes once, behind the last. Whom a step hits is not made out here.
 
 ghost use Rattle.std.specs.Prelude.{◌≡◌, ◌+◌, ◌^◌, ◌<◌, ◌∷◌, [], List, OnErr, OnOk, length};
 
@@ -45,7 +48,7 @@ impl Conflicts {
     }
 
     /// Counts one more. Where there is no memory for a row the counts stay as they were.
-    pub fn told(&mut self, conflict: Conflict) -> Result<(), AllocError>
+    pub fn note(&mut self, conflict: Conflict) -> Result<(), AllocError>
         ensures ok { OnOk result ((conflicts : List Conflict) → length conflicts + 1 < 2 ^ 32
             → AreConflicts ⟦<Conflict as PartialEq>⟧.eq self.old conflicts
             → AreConflicts ⟦<Conflict as PartialEq>⟧.eq self.new (conflict ∷ conflicts)) }

@@ -1,4 +1,7 @@
 //! The counts of a run.
+//!
+//! [`RunCounts::note`] takes a step after another, from the first on: it makes room for all rows that the step may
+//! need, and only then counts. [`RunCounts::sort`] comes once, behind the last. Hits are counted by `conflicts`.
 
 ghost use Rattle.std.specs.Prelude.{◌≡◌, ◌+◌, ◌^◌, ◌<◌, ◌&&◌, ◌∷◌, [], ℕ, List, OnErr, OnOk, if◌then◌else◌};
 ghost use Rattle.std.specs.Prelude.{length, nat_eq};
@@ -63,7 +66,7 @@ impl RunCounts {
 
     /// Counts one more step: what were the counts of some steps are those of these with one more. Where there is no
     /// memory for a row they stay the counts that they were.
-    pub fn told(&mut self, step: Step) -> Result<(), AllocError>
+    pub fn note(&mut self, step: Step) -> Result<(), AllocError>
         ensures ok { OnOk result ((steps : List Step) → length steps + 1 < 2 ^ 32
             → AreCounts ⟦<AbortCause as PartialEq>⟧.eq self.old steps
             → AreCounts ⟦<AbortCause as PartialEq>⟧.eq self.new (step ∷ steps)) }

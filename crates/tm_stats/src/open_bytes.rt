@@ -1,4 +1,7 @@
 //! The bytes of open transactions.
+//!
+//! [`OpenBytes::is_apart`] is asked before a step, of whom it hits, and [`OpenBytes::note`] takes the step behind it: a
+//! step that ends a transaction lets its bytes go. Each core has bytes of its own.
 
 ghost use Rattle.std.specs.Prelude.{◌≡◌, ◌+◌, ◌<◌, ◌≤◌, ◌||◌, ◌∷◌, [], ℕ, List, OnErr, OnOk, nat_eq, IsTrue, ◌↔◌};
 ghost use Rattle.indexmap.specs.IndexSet.{contains, spare};
@@ -45,7 +48,7 @@ impl OpenBytes {
     }
 
     /// Tells one more step of the core. Where there is no memory the bytes stay as they were.
-    pub fn told(&mut self, step: ByteStep) -> Result<(), AllocError>
+    pub fn note(&mut self, step: ByteStep) -> Result<(), AllocError>
         ensures ok { OnOk result ((steps : List ByteStep) → AreOpenBytes self.old steps
             → AreOpenBytes self.new (step ∷ steps)) }
         ensures err { OnErr result ((steps : List ByteStep) → AreOpenBytes self.old steps

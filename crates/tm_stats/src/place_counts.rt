@@ -1,4 +1,7 @@
 //! What the transactions of one place came to.
+//!
+//! A place is the address of an outermost XBEGIN. Which step is counted at which place is decided in `counts`; here is
+//! what one more step makes of the numbers of its place.
 
 ghost use Rattle.std.specs.Prelude.{◌≡◌};
 ghost use Rattle.tm_stats.specs.Places.{Fits, after_step};

@@ -1,4 +1,7 @@
 //! The least, the middle and the greatest of sizes.
+//!
+//! [`spread_from`] goes over rows that are sorted, place by place: it answers the spread of one place, and where the
+//! next one begins. Nothing is sorted here.
 
 ghost use Rattle.std.specs.Prelude.{◌≡◌, ◌<◌, ◌≤◌, ◌+◌, ◌^◌, ℕ, IfSome, IsSomeAnd, Some, drop, length, slice_get};
 ghost use Rattle.tm_stats.specs.Spread.{AreInOrder, IsSpreadOf, rows_of_place, sizes_of};

@@ -1,4 +1,7 @@
 //! What is told of a step, and the keys of rows.
+//!
+//! A [`Step`] says what the machine was before the step and what came of it. Keys are compared place first, so that the
+//! rows of a place stand together.
 
 use crate::cause::AbortCause;
 use tm_model::Outcome;

@@ -1,4 +1,7 @@
 //! Totals by key.
+//!
+//! No total wraps: it stays at the greatest number once there. Who adds has made room before, so that adding takes no
+//! memory.
 
 ghost use Rattle.std.specs.Prelude.{◌≡◌, ◌+◌, ◌^◌, ◌<◌};
 ghost use Rattle.indexmap.specs.IndexMap.{spare};

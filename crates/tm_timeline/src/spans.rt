@@ -97,10 +97,8 @@ impl Spans {
     pub fn add_step(&mut self, step: Step) -> Result<(), AllocError>
         ensures { self.new.spans.items ≡ self.old.spans.items }
     {
-        match self.steps.push(step) {
-            Ok(()) => Ok(()),
-            Err(_) => Err(AllocError),
-        }
+        self.steps.push(step)?;
+        Ok(())
     }
 
     /// What a step did, where that is told.
@@ -134,10 +132,8 @@ impl Spans {
     pub fn add_arrow(&mut self, arrow: Arrow) -> Result<(), AllocError>
         ensures { self.new.spans.items ≡ self.old.spans.items }
     {
-        match self.arrows.push(arrow) {
-            Ok(()) => Ok(()),
-            Err(_) => Err(AllocError),
-        }
+        self.arrows.push(arrow)?;
+        Ok(())
     }
 
     /// Takes up a transaction that has ended.
@@ -145,10 +141,8 @@ impl Spans {
         ensures ok { OnOk result (self.new.spans.items ≡ self.old.spans.items ++ span ∷ []) }
         ensures err { OnErr result (self.new.spans.items ≡ self.old.spans.items) }
     {
-        match self.spans.push(span) {
-            Ok(()) => Ok(()),
-            Err(_) => Err(AllocError),
-        }
+        self.spans.push(span)?;
+        Ok(())
     }
 }
 

@@ -184,7 +184,7 @@ impl Timeline {
 
     /// Tells the next step: its core and what it was. Where transactions are drawn one by one, and the step is in the
     /// window, a commit or an abort adds the bar of a transaction that came to this by this step.
-    pub fn told(&mut self, core: u8, outcome: Outcome) -> Result<(), AllocError>
+    pub fn note(&mut self, core: u8, outcome: Outcome) -> Result<(), AllocError>
         ensures next { self.old.next + 1 < 2 ^ 32 → self.new.next ≡ self.old.next + 1 }
         ensures grows { Grows self.old self.new }
         ensures bar { OnOk result ((what : Fate) → fate_at outcome ≡ Some what → is_few self.old.picture ≡ true →

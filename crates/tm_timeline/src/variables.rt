@@ -60,10 +60,8 @@ impl Variables {
             name,
             values: Vec::new(alloc),
         };
-        match self.list.push(variable) {
-            Ok(()) => Ok(()),
-            Err(_) => Err(AllocError),
-        }
+        self.list.push(variable)?;
+        Ok(())
     }
 
     /// How many there are.
@@ -89,12 +87,10 @@ impl Variables {
             values.clear();
         }
         match values.last() {
-            Some(held) if held.value == value => Ok(()),
-            _ => match values.push(Held { steps, value }) {
-                Ok(()) => Ok(()),
-                Err(_) => Err(AllocError),
-            },
+            Some(held) if held.value == value => {}
+            _ => values.push(Held { steps, value })?,
         }
+        Ok(())
     }
 
     /// Draws a row for each, one below another.

@@ -73,5 +73,5 @@ fn watch_step(board: &Board, made: u64, first: &mut Board, watch: &mut Watch)
         unreachable!()
     };
     first.step_again(board, made);
-    watch.told(&asked, outcome);
+    watch.note(&asked, outcome);
 }

@@ -1,7 +1,7 @@
 //! The law of what is watched: a hit stands on a core exactly while the core is doomed.
 //!
 //! The function does nothing: its contract is the law, of the definitions alone, for owed steps whose hits are
-//! told. That a watch keeps what they say is promised by [`Watch::told`](crate::Watch::told).
+//! told. That a watch keeps what they say is promised by [`Watch::note`](crate::Watch::note).
 
 ghost use Rattle.tm_why.specs.Standing.{HitsStand};
 

@@ -1,6 +1,6 @@
 //! A run that is watched: a [`Watch`] is told of each step, in their order, with what the machine said before it.
 //!
-//! [`Watch::reason`] and [`Watch::begun`] are asked before [`Watch::told`], which may end the transaction that they
+//! [`Watch::reason`] and [`Watch::begun`] are asked before [`Watch::note`], which may end the transaction that they
 //! speak of. No machine is asked and no step made here: `asked` and the caller do that.
 
 ghost use Rattle.std.specs.Prelude.{◌≡◌, ℕ, ◌<◌, ◌^◌, ◌-◌, ◌∷◌, [], List, length, slice_index_or};
@@ -38,7 +38,7 @@ impl Watch {
     }
 
     /// Why the step that was asked of is an abort, where it is one, if no event comes in its place: to be asked before
-    /// [`Watch::told`].
+    /// [`Watch::note`].
     pub fn reason(&self, asked: &Asked) -> Option<Reason>
         ensures { (steps : List Told) → IsWatch self.now steps → result ≡ reason_in asked.now steps }
     {
@@ -51,7 +51,7 @@ impl Watch {
     }
 
     /// At which step the open transaction of the core that was asked of began, if it has one: to be asked before
-    /// [`Watch::told`], as of a transaction that is then aborted from outside.
+    /// [`Watch::note`], as of a transaction that is then aborted from outside.
     pub fn begun(&self, asked: &Asked) -> Option<u64>
         ensures { (steps : List Told) → IsWatch self.now steps → result ≡ begun_in asked.now.core steps }
     {
@@ -60,7 +60,7 @@ impl Watch {
 
     /// Takes in a step: what the machine said of it, and what came of it, also where an event came in its place. Takes
     /// no memory.
-    pub fn told(&mut self, asked: &Asked, outcome: Outcome)
+    pub fn note(&mut self, asked: &Asked, outcome: Outcome)
         ensures { (steps : List Told) → length steps < 2 ^ 64 - 1 → IsWatch self.old steps →
             IsWatch self.new ((asked.now, outcome) ∷ steps) }
     {

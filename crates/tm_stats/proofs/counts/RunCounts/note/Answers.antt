@@ -1,7 +1,7 @@
 use Rattle.std.proofs.Common.{refl, ap, ◌∙◌, arith, rules}
 use Rattle.tm_stats.specs.Tally.{counted}
 use Rattle.tm_stats.proofs.Told.{told_counts}
-use Rattle.tm_stats.proofs.counts.RunCounts.told.Goals as goal
+use Rattle.tm_stats.proofs.counts.RunCounts.note.Goals as goal
 
 pub returns-clause-ok : goal.returns-clause-ok
 returns-clause-ok c = λ steps few was. told_counts steps few was c.make_room.ensures.same (record {

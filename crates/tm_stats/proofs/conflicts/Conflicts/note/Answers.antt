@@ -1,7 +1,7 @@
 use Rattle.std.proofs.Common.{nat_eq, BuildHasherDefault, FoldHasher}
 use Rattle.tm_stats.specs.contracts.conflicts.ConflictPartialEq.TheImpl as hits
 use Rattle.tm_stats.proofs.Hits.{hits_told}
-use Rattle.tm_stats.proofs.conflicts.Conflicts.told.Goals as goal
+use Rattle.tm_stats.proofs.conflicts.Conflicts.note.Goals as goal
 
 pub returns-clause-ok : goal.returns-clause-ok
 returns-clause-ok c = λ told few are. record {

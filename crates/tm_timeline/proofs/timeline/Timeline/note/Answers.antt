@@ -3,7 +3,7 @@
 use Rattle.std.proofs.Common.{◌≡◌, ◌≤◌, ◌<◌, ◌∷◌, ◌++◌, [], Some, ap, sym, subst, ◌∙◌}
 use Rattle.std.proofs.lemmas.Result.{on_ok_weaker}
 use Rattle.tm_timeline.specs.Told.{IsEnded, bars, is_few}
-use Rattle.tm_timeline.proofs.timeline.Timeline.told.Goals as goal
+use Rattle.tm_timeline.proofs.timeline.Timeline.note.Goals as goal
 
 pub returns-in-Some-clause-bar : goal.returns-in-Some-clause-bar
 returns-in-Some-clause-bar c =

@@ -1,6 +1,6 @@
 use Rattle.std.proofs.Common.{◌≡◌, suc, length, arith}
 use Rattle.tm_why.proofs.OneStep.{one_step}
-use Rattle.tm_why.proofs.watch.Watch.told.Goals as goal
+use Rattle.tm_why.proofs.watch.Watch.note.Goals as goal
 
 pub returns : goal.returns
 returns c = λ steps few watch.
