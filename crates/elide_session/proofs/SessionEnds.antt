@@ -1,19 +1,25 @@
--- Why a session ends early, by the number of its fault.
+-- Why a session ends early, by its fault.
 use Rattle.std.proofs.Common.{◌≡◌, ℕ, List, Option, ap}
-use Rattle.text_out.specs.Writing.{Device, Rose}
+use Rattle.std.specs.Prelude.{Err}
+use Rattle.text_out.specs.Writing.{Device}
+use Rattle.debug_command.specs.declared.manner.Manner.{Manner}
+use Rattle.tm_debug.specs.Serving.{IsSession, devices}
+use Rattle.tm_debug.specs.Session.{SessionValue}
+use Rattle.tm_debug.specs.declared.session.SessionFault.{SessionFault}
+use Rattle.tm_debug.specs.declared.session.SessionFault.TheVariants.{Read, Write, NoMemory}
 use Rattle.elide_args.specs.declared.subcommand.SessionOptions.{SessionOptions}
 use Rattle.elide_setup.specs.declared.fault.Fault.{Fault}
 use Rattle.elide_setup.specs.declared.fault.Refusal.TheVariants as refusal
-use Rattle.elide_session.specs.Refused.{IsEndBy, by_input, by_memory, by_output}
+use Rattle.elide_session.specs.Refused.{session_fault}
 use Rattle.elide_session.specs.DebugRefused.{IsRefused, input_failed, no_memory, output_failed}
 
-pub ended : (content : List ℕ → Option (List ℕ)) (options : SessionOptions) (failed failed_after : ℕ) (old new : Device)
-    (number : ℕ) (told : Fault) → IsEndBy number told →
-    (number ≡ 76 → Rose failed failed_after) → (number ≡ 77 → Rose old.failures new.failures)
-    → IsRefused content options failed failed_after old new (refusal.Fault told)
-ended content options failed failed_after old new number told (by_input e is) read write =
-    input_failed (ap refusal.Fault is) (read e)
-ended content options failed failed_after old new number told (by_output e is) read write =
-    output_failed (ap refusal.Fault is) (write e)
-ended content options failed failed_after old new number told (by_memory e is) read write =
-    no_memory (ap refusal.Fault is)
+pub ended : {failed failed_after : ℕ} {old new : Device} (left left_after : Option (List ℕ))
+    (content : List ℕ → Option (List ℕ)) (options : SessionOptions) (manner : Manner) (from : SessionValue)
+    (fault : SessionFault) (told : Fault) →
+    IsSession manner from (devices failed left old) (devices failed_after left_after new) (Err fault)
+    → told ≡ session_fault fault → IsRefused content options failed failed_after old new (refusal.Fault told)
+ended left left_after content options manner from (Read board) told session is =
+    input_failed (ap refusal.Fault is) session.0
+ended left left_after content options manner from (Write board) told session is =
+    output_failed (ap refusal.Fault is) session.0
+ended left left_after content options manner from (NoMemory board) told session is = no_memory (ap refusal.Fault is)

@@ -1,5 +1,7 @@
 -- Why a session is not opened, and why it ends early (docs/FAULTS.md).
 use Rattle.std.specs.Prelude.{◌≡◌, ℕ, ◌⊎◌, true, List, Option, length}
+use Rattle.tm_debug.specs.declared.session.SessionFault.{SessionFault}
+use Rattle.tm_debug.specs.declared.session.SessionFault.TheVariants.{Read, Write, NoMemory}
 use Rattle.elide_args.specs.declared.subcommand.MachineOptions.{MachineOptions}
 use Rattle.elide_args.specs.declared.subcommand.ScheduleOptions.{ScheduleOptions}
 use Rattle.elide_setup.specs.Refused.{HasNoSetup, IsAnyWant, IsCourseOf, IsNoBoard, IsNoMachine, IsNotScheduled}
@@ -33,8 +35,8 @@ pub data IsNotOpened (content : List ℕ → Option (List ℕ)) (machine : Machi
       → IsNotOpened content machine schedule why
   unnamed : IsAnyWant why → IsNotOpened content machine schedule why
 
--- a fault of this number ended a session: its input or its output failed, or it had no memory
-pub data IsEndBy (number : ℕ) (told : Fault) : Type 0 where
-  by_input : number ≡ 76 → told ≡ fault.SessionRead → IsEndBy number told
-  by_output : number ≡ 77 → told ≡ fault.SessionWrite → IsEndBy number told
-  by_memory : number ≡ 78 → told ≡ fault.NoSession → IsEndBy number told
+-- the fault that is told where one ended a session early: its input or its output failed, or it had no memory
+abbrev pub session_fault : SessionFault → Fault
+session_fault (Read board) = fault.SessionRead
+session_fault (Write board) = fault.SessionWrite
+session_fault (NoMemory board) = fault.NoSession

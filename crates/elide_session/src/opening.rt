@@ -8,7 +8,7 @@
 ghost use Rattle.std.specs.Prelude.{◌≡◌, ℕ, IfErr, IfOk, IfSome, List, Option, Some, false, is_some, true};
 ghost use Rattle.elide_session.specs.Opened.{AreDrawn, IsLimitedOut, IsOpened, IsPlan};
 ghost use Rattle.elide_session.specs.Opened.{is_scheduled, limited_plan, says_draw};
-ghost use Rattle.elide_session.specs.Refused.{IsEndBy, IsNotOpened, IsUndrawn};
+ghost use Rattle.elide_session.specs.Refused.{IsNotOpened, IsUndrawn, session_fault};
 ghost use Rattle.elide_places.specs.FileSymbols.{AreSymbolsOf};
 ghost use Rattle.elide_setup.specs.Drawing.{AreUnder};
 ghost use Rattle.elide_setup.specs.Faults.{fault_number};
@@ -81,7 +81,7 @@ pub fn opened<P: Paths>(
 /// The fault that ended a session early. The board that comes with it is not asked for.
 pub fn session_fault(fault: &SessionFault) -> Fault
     ensures number { fault_number result ≡ session_code fault.now }
-    ensures kind { IsEndBy (session_code fault.now) result }
+    ensures kind { result ≡ session_fault fault.now }
 {
     match fault {
         SessionFault::Read(_) => Fault::SessionRead,

@@ -1,15 +1,15 @@
 -- Sessions that grow by a line.
 use Rattle.std.proofs.Common.{◌≡◌, ◌⊎◌, ◌==◌, ◌<◌, Bool, true, false, length, ℕ, List, [], ◌∷◌, ◌++◌, Option, Some}
 use Rattle.std.proofs.Common.{refl, sym, ◌∙◌, ap, append-nil, append_assoc, inl, inr, subst}
-use Rattle.std.specs.Prelude.{Result, Ok, Err, MatchResult, OnOk}
+use Rattle.std.specs.Prelude.{Result, Ok, Err}
 use Rattle.tm_debug.specs.declared.interruption.Interruption.{Interruption}
 use Rattle.ia_lex.specs.Lines.{lines_of}
-use Rattle.text_out.specs.Writing.{Device, Rose, Stopped, Wrote}
+use Rattle.text_out.specs.Writing.{Device, Rose, Wrote}
 use Rattle.text_out.proofs.Writing.{wrote_none, wrote_then}
 use Rattle.tm_debug.specs.declared.line.Line.{Line}
 use Rattle.tm_debug.specs.declared.line.Line.TheVariants as read
 use Rattle.tm_debug.specs.declared.session.Request.{Request}
-use Rattle.tm_debug.specs.declared.session.Request.TheVariants.{Do, Leave, Nothing, Refuse}
+use Rattle.tm_debug.specs.declared.session.Request.TheVariants.{Do, Nothing, Refuse}
 use Rattle.debug_command.specs.declared.command.DebugCommand.{DebugCommand}
 use Rattle.debug_command.specs.declared.command.DebugCommand.TheVariants as command
 use Rattle.debug_command.specs.declared.manner.Manner.{Manner}
@@ -24,27 +24,31 @@ use Rattle.tm_debug.specs.declared.state.Way.{Way}
 use Rattle.tm_debug.specs.declared.state.Way.TheVariants.{AlongPlan, InTurn}
 use Rattle.tm_debug.specs.Session.{AnswersBroken, Ends, SessionValue, bye_line, is_run_length, run_broken_by}
 use Rattle.tm_debug.specs.Serving.{AnswersLines, BeginsLine, PromptedBroken, Responds, RespondsBroken, FailsToRead}
-use Rattle.tm_debug.specs.Serving.{FailsToWrite, FindsNoMemory, FirstLine, IsEnded, IsLine, LinesRead, Replies}
-use Rattle.tm_debug.specs.Serving.{RepliesBroken, ServesInput, WantsMemory, first_request, request_by, request_of}
+use Rattle.tm_debug.specs.Serving.{FailsToWrite, FindsNoMemory, FirstLine, IsEnded, IsLine, IsSession, LastBroken}
+use Rattle.tm_debug.specs.Serving.{LinesRead, Replies, RepliesBroken, ServesInput, WantsMemory, devices, first_request}
+use Rattle.tm_debug.specs.Serving.{given_back, request_by, request_of}
+use Rattle.tm_debug.specs.declared.session.SessionFault.TheVariants as fault
 use Rattle.tm_debug.proofs.Bytewise.{GivesLine}
 
 went_more : (front : List (List ℕ)) (line : List ℕ) (p q s : SessionValue) (told answer : List ℕ)
-    → AnswersLines front p told q → Replies (request_of q.symbols line) q answer s
-    → AnswersLines (front ++ line ∷ []) p (told ++ answer) s
-went_more [] line p q s told answer h r = record {
+    → AnswersLines front p told q → (request_of q.symbols line ≡ Do command.Quit → ⊥)
+    → Replies (request_of q.symbols line) q answer s → AnswersLines (front ++ line ∷ []) p (told ++ answer) s
+went_more [] line p q s told answer h stays r = record {
   between = s;
   answer = answer;
   others = [];
+  stays = subst (λ (x : SessionValue). request_of x.symbols line ≡ Do command.Quit → ⊥) h.1 stays;
   replies = subst (λ (x : SessionValue). Replies (request_of x.symbols line) x answer s) h.1 r;
   go_on = (refl, refl);
   whole = ap (λ l. l ++ answer) h.0 ∙ sym (append-nil answer);
 }
-went_more (first ∷ front) line p q s told answer h r = record {
+went_more (first ∷ front) line p q s told answer h stays r = record {
   between = h.between;
   answer = h.answer;
   others = h.others ++ answer;
+  stays = h.stays;
   replies = h.replies;
-  go_on = went_more front line h.between q s h.others answer h.go_on r;
+  go_on = went_more front line h.between q s h.others answer h.go_on stays r;
   whole = ap (λ l. l ++ answer) h.whole ∙ append_assoc h.answer h.others answer;
 }
 
@@ -128,11 +132,12 @@ serving_new given failed p d = record {
 
 abbrev pub Requests : List Symbol → Request → Line → Type 0
 Requests symbols request line =
-    ((text : List ℕ) → IsLine text line → request ≡ request_of symbols text) × (line ≡ read.End → request ≡ Leave)
+    ((text : List ℕ) → IsLine text line → request ≡ request_of symbols text)
+    × (line ≡ read.End → request ≡ Do command.Quit)
 
 pub serving_more : {a b c : Option (List ℕ)} {f g h : ℕ} {d0 d1 d2 : Device} (p q s : SessionValue) (line : Line)
     (request : Request) → Serving a b f g p q d0 d1 → GivesLine b c line → h ≡ g → Requests q.symbols request line
-    → (request ≡ Leave → ⊥) →
+    → (request ≡ Do command.Quit → ⊥) →
     (text : List ℕ) × Replies request q text s × Wrote d1 d2 text → Serving a c f h p s d0 d2
 serving_more p q s line request so_far gives same requests stays done = record {
   failed = same ∙ so_far.failed;
@@ -146,7 +151,7 @@ serving_more p q s line request so_far gives same requests stays done = record {
           front = k.front ++ one.0 ∷ [];
           told = k.told ++ done.0;
           rest = next.0;
-          went = went_more k.front one.0 p q s k.told done.0 k.went
+          went = went_more k.front one.0 p q s k.told done.0 k.went (λ e. stays (requests.0 one.0 one.1 ∙ e))
               (subst (λ (w : Request). Replies w q done.0 s) (requests.0 one.0 one.1) done.1);
           wrote = wrote_then k.wrote done.2;
           is_left = next.1;
@@ -227,11 +232,11 @@ takes xs p q d0 d1 line request k gives requests =
           requests one.1 one.2
     ]
 
-pub serving_ends : {a b c : Option (List ℕ)} {f g : ℕ} {d0 d1 d2 : Device} (p q : SessionValue) (line : Line)
+serving_ends : {a b c : Option (List ℕ)} {f g : ℕ} {d0 d1 d2 : Device} (p q : SessionValue) (line : Line)
     (request : Request) → Serving a b f g p q d0 d1 → GivesLine b c line → Requests q.symbols request line
-    → request ≡ Leave → Wrote d1 d2 bye_line →
+    → request ≡ Do command.Quit → Wrote d1 d2 bye_line →
     ServesInput a c p d0 d2 q.board
-serving_ends {a} {b} {c} {f} {g} {d0} {d1} {d2} p q line request so_far gives requests leave wrote xs e =
+serving_ends {a} {b} {c} {f} {g} {d0} {d1} {d2} p q line request so_far gives requests quit wrote xs e =
     let k = so_far.known xs e in
     let t = takes xs p q d0 d1 line request k gives requests in (
       t.rest,
@@ -244,7 +249,7 @@ serving_ends {a} {b} {c} {f} {g} {d0} {d1} {d2} p q line request so_far gives re
         taken = t.taken;
         told = k.told;
         went = k.went;
-        ends = t.asks ∙ leave;
+        ends = t.asks ∙ quit;
         whole = refl;
       },
       refl,
@@ -252,7 +257,7 @@ serving_ends {a} {b} {c} {f} {g} {d0} {d1} {d2} p q line request so_far gives re
     )
 
 -- the input failed before a line was read to its end
-pub fails_to_read : {a b c : Option (List ℕ)} {f g : ℕ} {d0 d1 : Device} (p q : SessionValue)
+fails_to_read : {a b c : Option (List ℕ)} {f g : ℕ} {d0 d1 : Device} (p q : SessionValue)
     → Serving a b f g p q d0 d1 → ((xs : List ℕ) → b ≡ Some xs → (ys : List ℕ) × (c ≡ Some ys) × BeginsLine xs ys) →
     FailsToRead a c p d0 d1 q.board
 fails_to_read p q so_far begins xs e =
@@ -277,9 +282,9 @@ fails_to_read p q so_far begins xs e =
     )
 
 -- the answer to the line that was read last was not written whole
-pub fails_to_write : {a b c : Option (List ℕ)} {f g : ℕ} {d0 d1 d2 : Device} (p q s : SessionValue) (line : Line)
+fails_to_write : {a b c : Option (List ℕ)} {f g : ℕ} {d0 d1 d2 : Device} (p q s : SessionValue) (line : Line)
     (request : Request) → Serving a b f g p q d0 d1 → GivesLine b c line → Requests q.symbols request line →
-    RepliesBroken request q d1 d2 s → FailsToWrite a c p d0 d2 s.board
+    LastBroken request q d1 d2 s → FailsToWrite a c p d0 d2 s.board
 fails_to_write {a} {b} {c} {f} {g} {d0} {d1} {d2} p q s line request so_far gives requests broken xs e =
     let k = so_far.known xs e in
     let t = takes xs p q d0 d1 line request k gives requests in (
@@ -295,12 +300,12 @@ fails_to_write {a} {b} {c} {f} {g} {d0} {d1} {d2} p q s line request so_far give
         between = d1;
         went = k.went;
         wrote = k.wrote;
-        broken = subst (λ (w : Request). RepliesBroken w q d1 d2 s) (sym t.asks) broken;
+        broken = subst (λ (w : Request). LastBroken w q d1 d2 s) (sym t.asks) broken;
       },
       refl,
     )
 
-pub rose_after : {a b c : ℕ} → b ≡ a → Rose b c → Rose a c
+rose_after : {a b c : ℕ} → b ≡ a → Rose b c → Rose a c
 rose_after {a} {b} {c} e h = subst (λ n. Rose n c) e h
 
 pub long_request : (symbols : List Symbol) (text : List ℕ) → 256 < length text
@@ -308,57 +313,6 @@ pub long_request : (symbols : List Symbol) (text : List ℕ) → 256 < length te
 unfolding request_of
 long_request symbols text h =
     ap (λ b. request_by b (length (first_word text) == 0) (command_of symbols text)) (sym (lt-ltb 256 (length text) h))
-
--- a line was not answered
-pub reply_written : {a b c : Option (List ℕ)} {f g : ℕ} {d0 d1 : Device} (d2 : Device) (p q s : SessionValue)
-    (line : Line) (request : Request) (t : Interruption) → Serving a b f g p q d0 d1 → GivesLine b c line
-    → Requests q.symbols request line →
-    Ends (Replies request q) (RepliesBroken request q) d1 d2 q s (Err t) → t ≡ interruption.Write
-    → FailsToWrite a c p d0 d2 s.board
-reply_written d2 p q s line request interruption.Write so_far gives requests ends e =
-    fails_to_write p q s line request so_far gives requests ends
-reply_written d2 p q s line request interruption.NoMemory so_far gives requests ends e = cc
-reply_written d2 p q s line request interruption.Read so_far gives requests ends e = cc
-
--- the session ends with the parting word
-pub left_ok : {a b c : Option (List ℕ)} {f g : ℕ} {d0 d1 : Device} (d2 : Device) (p q : SessionValue) (line : Line)
-    (request : Request) (r : Result (Unit {0}) Interruption) → Serving a b f g p q d0 d1 → GivesLine b c line
-    → Requests q.symbols request line → request ≡ Leave →
-    MatchResult r (λ _. Wrote d1 d2 bye_line) (λ fault. (fault ≡ interruption.Write) × Stopped d1 d2 bye_line) →
-    OnOk r (ServesInput a c p d0 d2 q.board)
-left_ok d2 p q line request (Ok done) so_far gives requests leave told =
-    serving_ends p q line request so_far gives requests leave told
-left_ok d2 p q line request (Err fault) so_far gives requests leave told = tt
-
-left_broken : (manner : Manner) (q : SessionValue) (d1 d2 : Device) → RespondsBroken Leave q d1 d2 q
-    → PromptedBroken manner (Responds Leave q) (RespondsBroken Leave q) d1 d2 q
-left_broken Plain q d1 d2 broken = broken
-left_broken Spoken q d1 d2 broken = inl broken
-
-pub left_written : {a b c : Option (List ℕ)} {f g : ℕ} {d0 d1 : Device} (d2 : Device) (p q : SessionValue) (line : Line)
-    (request : Request) (r : Result (Unit {0}) Interruption) → Serving a b f g p q d0 d1 → GivesLine b c line
-    → Requests q.symbols request line → request ≡ Leave →
-    MatchResult r (λ _. Wrote d1 d2 bye_line) (λ fault. (fault ≡ interruption.Write) × Stopped d1 d2 bye_line)
-    → r ≡ Err interruption.Write → FailsToWrite a c p d0 d2 q.board
-left_written d2 p q line request (Ok done) so_far gives requests leave told e = cc
-left_written {a} {b} {c} {f} {g} {d0} {d1} d2 p q line request (Err fault) so_far gives requests leave told e =
-    fails_to_write p q q line request so_far gives requests
-    (subst (λ (w : Request). RepliesBroken w q d1 d2 q) (sym leave)
-    (left_broken q.manner q d1 d2 (bye_line, (refl, refl), told.1)))
-
-pub left_reads : {X : Type 0} (old new : Device) (r : Result (Unit {0}) Interruption)
-    → MatchResult r (λ _. Wrote old new bye_line) (λ fault. (fault ≡ interruption.Write) × Stopped old new bye_line)
-    → r ≡ Err interruption.Read → X
-left_reads old new (Ok done) told e = cc
-left_reads old new (Err fault) told e = let is = told.0 in cc
-
--- no answer to a line reads
-pub never_read : {X : Type 0} (old new : Device) (whole : List ℕ → SessionValue → Type 0)
-    (broken : Device → Device → SessionValue → Type 0) (p q : SessionValue) (t : Interruption)
-    → Ends whole broken old new p q (Err t) → t ≡ interruption.Read → X
-never_read old new whole broken p q interruption.Read ends e = absurd ends
-never_read old new whole broken p q interruption.Write ends e = cc
-never_read old new whole broken p q interruption.NoMemory ends e = cc
 
 run_rose : (way : Way) (number : ℕ) (q s : SessionValue) (b : Bool) (d1 d2 : Device)
     → run_broken_by b way number q d1 d2 s → Rose d1.failures d2.failures
@@ -383,7 +337,6 @@ broken_rose command.Quit q s d1 d2 broken = broken.2.failures
 
 responded_rose : (request : Request) (q s : SessionValue) (d1 d2 : Device) → RespondsBroken request q d1 d2 s
     → Rose d1.failures d2.failures
-responded_rose Leave q s d1 d2 broken = broken.2.failures
 responded_rose Nothing q s d1 d2 broken = absurd broken
 responded_rose (Refuse refusal) q s d1 d2 broken = broken.2.failures
 responded_rose (Do command) q s d1 d2 broken = broken_rose command q s d1 d2 broken
@@ -398,35 +351,11 @@ replied_rose : (request : Request) (q s : SessionValue) (d1 d2 : Device) → Rep
     → Rose d1.failures d2.failures
 replied_rose request q s d1 d2 broken = prompted_rose q.manner request q s d1 d2 broken
 
-pub reply_write : {a b : Option (List ℕ)} {f g : ℕ} {d0 d1 : Device} (d2 : Device) (p q s : SessionValue)
-    (request : Request) (t : Interruption) → Serving a b f g p q d0 d1
-    → Ends (Replies request q) (RepliesBroken request q) d1 d2 q s (Err t) → t ≡ interruption.Write
-    → Rose d0.failures d2.failures
-reply_write {a} {b} {f} {g} {d0} {d1} d2 p q s request interruption.Write so_far ends e =
-    rose_after so_far.failures (replied_rose request q s d1 d2 ends)
-reply_write d2 p q s request interruption.NoMemory so_far ends e = cc
-reply_write d2 p q s request interruption.Read so_far ends e = cc
-
--- the parting word takes no memory
-pub leaves_without : {X : Type 0} (old new : Device) (r : Result (Unit {0}) Interruption)
-    → MatchResult r (λ _. Wrote old new bye_line) (λ fault. (fault ≡ interruption.Write) × Stopped old new bye_line)
-    → r ≡ Err interruption.NoMemory → X
-leaves_without old new (Ok done) told e = cc
-leaves_without old new (Err interruption.Read) told e = cc
-leaves_without old new (Err interruption.Write) told e = cc
-leaves_without old new (Err interruption.NoMemory) told e = let is = told.0 in cc
-
 -- the answer to a line wanted memory
-pub wanted : {a b c : Option (List ℕ)} {f g : ℕ} {d0 d1 : Device} (d2 : Device) (p q s : SessionValue) (line : Line)
-    (request : Request) (t : Interruption) → Serving a b f g p q d0 d1 → GivesLine b c line
-    → Requests q.symbols request line →
-    (t ≡ interruption.NoMemory → WantsMemory request)
-    → Ends (Replies request q) (RepliesBroken request q) d1 d2 q s (Err t) → t ≡ interruption.NoMemory
-    → FindsNoMemory a c p d0 d2 s.board
-wanted d2 p q s line request interruption.Write so_far gives requests wants ends is xs e = cc
-wanted d2 p q s line request interruption.Read so_far gives requests wants ends is xs e = cc
-wanted {a} {b} {c} {f} {g} {d0} {d1} d2 p q s line request interruption.NoMemory so_far gives requests
-    wants ends is xs e =
+wanted : {a b c : Option (List ℕ)} {f g : ℕ} {d0 d1 : Device} (d2 : Device) (p q s : SessionValue) (line : Line)
+    (request : Request) → Serving a b f g p q d0 d1 → GivesLine b c line → Requests q.symbols request line
+    → WantsMemory request → s ≡ q → Wrote d1 d2 [] → FindsNoMemory a c p d0 d2 s.board
+wanted {a} {b} {c} {f} {g} {d0} {d1} d2 p q s line request so_far gives requests wants same wrote xs e =
     let k = so_far.known xs e in
     let t = takes xs p q d0 d1 line request k gives requests in (
       t.rest,
@@ -437,10 +366,56 @@ wanted {a} {b} {c} {f} {g} {d0} {d1} d2 p q s line request interruption.NoMemory
         front = k.front;
         last = t.last;
         taken = t.taken;
-        went = subst (λ (x : SessionValue). AnswersLines k.front p k.told x) (sym ends.0) k.went;
-        wants = subst (λ (x : SessionValue). WantsMemory (first_request x.symbols t.last)) (sym ends.0)
-            (subst (λ (w : Request). WantsMemory w) (sym t.asks) (wants refl));
+        went = subst (λ (x : SessionValue). AnswersLines k.front p k.told x) (sym same) k.went;
+        wants = subst (λ (x : SessionValue). WantsMemory (first_request x.symbols t.last)) (sym same)
+            (subst (λ (w : Request). WantsMemory w) (sym t.asks) wants);
       },
       refl,
-      subst (λ (l : List ℕ). Wrote d0 d2 l) (append-nil k.told) (wrote_then k.wrote ends.1),
+      subst (λ (l : List ℕ). Wrote d0 d2 l) (append-nil k.told) (wrote_then k.wrote wrote),
     )
+
+-- ---- what a session gives back
+
+-- no further line was read to its end
+pub unread : {a b c : Option (List ℕ)} {f g h : ℕ} {d0 d1 : Device} (p q : SessionValue)
+    → Serving a b f g p q d0 d1 → Rose g h →
+    ((xs : List ℕ) → b ≡ Some xs → (ys : List ℕ) × (c ≡ Some ys) × BeginsLine xs ys)
+    → IsSession Plain p (devices f a d0) (devices h c d1) (Err (fault.Read q.board))
+unread p q so_far rose begins = (rose_after so_far.failed rose, fails_to_read p q so_far begins)
+
+-- the answer to `quit` ends the session
+pub left : {a b c : Option (List ℕ)} {f g : ℕ} {d0 d1 : Device} (h : ℕ) (d2 : Device)
+    (p q s : SessionValue) (line : Line)
+    (request : Request) (r : Result (Unit {0}) Interruption) → Serving a b f g p q d0 d1 → GivesLine b c line
+    → Requests q.symbols request line → request ≡ Do command.Quit →
+    Ends (Responds request q) (RespondsBroken request q) d1 d2 q s r
+    → (r ≡ Err interruption.NoMemory → WantsMemory request)
+    → IsSession Plain p (devices f a d0) (devices h c d2) (given_back r s.board)
+left {a} {b} {c} {f} {g} {d0} {d1} h d2 p q s line request (Ok done) so_far gives requests quit ends wants =
+    let told = subst (λ (w : Request). Responds w q ends.0 s) quit ends.1 in
+    subst (λ (x : SessionValue). ServesInput a c p d0 d2 x.board) (sym told.1)
+    (serving_ends p q line request so_far gives requests quit (subst (λ (l : List ℕ). Wrote d1 d2 l) told.0 ends.2))
+left {a} {b} {c} {f} {g} {d0} {d1} h d2 p q s line request (Err interruption.Write) so_far gives requests quit
+    ends wants = (
+      rose_after so_far.failures (responded_rose request q s d1 d2 ends),
+      fails_to_write p q s line request so_far gives requests (inl (quit, ends)),
+    )
+left h d2 p q s line request (Err interruption.NoMemory) so_far gives requests quit ends wants =
+    absurd (subst WantsMemory quit (wants refl))
+left h d2 p q s line request (Err interruption.Read) so_far gives requests quit ends wants = absurd ends
+
+-- a line was not answered whole, with its prompt
+pub unanswered : {a b c : Option (List ℕ)} {f g : ℕ} {d0 d1 : Device} (h : ℕ) (d2 : Device) (p q s : SessionValue)
+    (line : Line) (request : Request) (why : Interruption) → Serving a b f g p q d0 d1 → GivesLine b c line
+    → Requests q.symbols request line → (request ≡ Do command.Quit → ⊥) →
+    Ends (Replies request q) (RepliesBroken request q) d1 d2 q s (Err why)
+    → (why ≡ interruption.NoMemory → WantsMemory request)
+    → IsSession Plain p (devices f a d0) (devices h c d2) (given_back (Err why) s.board)
+unanswered {a} {b} {c} {f} {g} {d0} {d1} h d2 p q s line request interruption.Write so_far gives requests stays
+    ends wants = (
+      rose_after so_far.failures (replied_rose request q s d1 d2 ends),
+      fails_to_write p q s line request so_far gives requests (inr (stays, ends)),
+    )
+unanswered h d2 p q s line request interruption.NoMemory so_far gives requests stays ends wants =
+    wanted d2 p q s line request so_far gives requests (wants refl) ends.0 ends.1
+unanswered h d2 p q s line request interruption.Read so_far gives requests stays ends wants = absurd ends

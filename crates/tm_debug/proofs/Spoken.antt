@@ -1,17 +1,17 @@
 -- Answers with a prompt behind them, and sessions behind their first prompt.
-use Rattle.std.proofs.Common.{◌≡◌, ◌++◌, ℕ, List, Option, refl, sym, subst, inr}
-use Rattle.std.specs.Prelude.{Result, Ok, Err, IfErr, IfOk}
+use Rattle.std.proofs.Common.{◌≡◌, ◌++◌, ℕ, List, Option, ap, refl, sym, subst, inl, inr}
+use Rattle.std.specs.Prelude.{Result, Ok, Err}
 use Rattle.text_out.specs.declared.out.WriteFault.{WriteFault}
-use Rattle.text_out.specs.Writing.{Device, Wrote}
+use Rattle.text_out.specs.Writing.{Device, Rose, Wrote}
 use Rattle.text_out.proofs.Writing.{wrote_then}
 use Rattle.tm_hist.specs.Board.{ShownBoard as Board}
 use Rattle.debug_command.specs.declared.manner.Manner.{Manner}
 use Rattle.debug_command.specs.declared.manner.Manner.TheVariants.{Plain, Spoken}
 use Rattle.tm_debug.specs.declared.session.SessionFault.{SessionFault}
-use Rattle.tm_debug.specs.Faults.{session_board, session_code}
+use Rattle.tm_debug.specs.declared.session.SessionFault.TheVariants as fault
 use Rattle.tm_debug.specs.Session.{Ends, SessionValue, answer_result}
-use Rattle.tm_debug.specs.Serving.{BehindPrompt, FailsToWrite, FailsToWriteIn, Prompted, PromptedBroken, Prompts}
-use Rattle.tm_debug.specs.Serving.{prompt_text}
+use Rattle.tm_debug.specs.Serving.{BehindPrompt, FailsToRead, FailsToWrite, FailsToWriteIn, FindsNoMemory, IsSession}
+use Rattle.tm_debug.specs.Serving.{Prompted, PromptedBroken, Prompts, ServesInput, devices, prompt_text}
 
 -- the prompt behind an answer
 pub prompted : {a b : Device} (c : Device) (manner : Manner) (whole : List ℕ → SessionValue → Type 0)
@@ -32,23 +32,6 @@ behind old mid Plain r done session prompts is h = subst session prompts.1 h
 behind old mid Spoken (Ok written) done session prompts is h = (mid, prompts, h)
 behind old mid Spoken (Err fault) done session prompts is h = cc
 
-pub behind_ok : {E : Type 0} (old mid : Device) (manner : Manner) (r : Result (Unit {0}) E) (done : Unit {0})
-    (serves : Device → Board → Type 0) (result : Result Board SessionFault) → Prompts manner old mid r → r ≡ Ok done →
-    IfOk result (serves mid) → IfOk result (λ last. BehindPrompt manner old (λ begun. serves begun last))
-behind_ok old mid manner r done serves (Ok last) prompts is h =
-    behind old mid manner r done (λ begun. serves begun last) prompts is h
-behind_ok old mid manner r done serves (Err fault) prompts is h = tt
-
-pub behind_err : {E : Type 0} (code : ℕ) (old mid : Device) (manner : Manner) (r : Result (Unit {0}) E)
-    (done : Unit {0}) (fails : Device → Board → Type 0) (result : Result Board SessionFault)
-    → Prompts manner old mid r → r ≡ Ok done →
-    IfErr result (λ fault. session_code fault ≡ code → fails mid (session_board fault)) →
-    IfErr result
-    (λ fault. session_code fault ≡ code → BehindPrompt manner old (λ begun. fails begun (session_board fault)))
-behind_err code old mid manner r done fails (Ok last) prompts is h = tt
-behind_err code old mid manner r done fails (Err fault) prompts is h =
-    λ e. behind old mid manner r done (λ begun. fails begun (session_board fault)) prompts is (h e)
-
 behind_write : {E : Type 0} (old mid new : Device) (input left : Option (List ℕ)) (manner : Manner)
     (r : Result (Unit {0}) E) (done : Unit {0}) (from : SessionValue) (board : Board)
     → Prompts manner old mid r → r ≡ Ok done →
@@ -58,12 +41,33 @@ behind_write old mid new input left Plain r done from board prompts is h =
 behind_write old mid new input left Spoken (Ok written) done from board prompts is h = inr (mid, prompts, h)
 behind_write old mid new input left Spoken (Err fault) done from board prompts is h = cc
 
-pub behind_written : {E : Type 0} (old mid new : Device) (input left : Option (List ℕ)) (manner : Manner)
+-- a prompt that is written counts no failure
+prompts_kept : {E : Type 0} (old mid : Device) (manner : Manner) (r : Result (Unit {0}) E) (done : Unit {0})
+    → Prompts manner old mid r → r ≡ Ok done → mid.failures ≡ old.failures
+prompts_kept old mid Plain r done prompts is = ap (λ (d : Device). d.failures) prompts.1
+prompts_kept old mid Spoken (Ok written) done prompts is = prompts.failures
+prompts_kept old mid Spoken (Err fault) done prompts is = cc
+
+-- a session behind its first prompt
+pub behind_prompt : {E : Type 0} (a c : Option (List ℕ)) (f g : ℕ) (old mid new : Device) (manner : Manner)
     (r : Result (Unit {0}) E) (done : Unit {0}) (from : SessionValue) (result : Result Board SessionFault)
-    → Prompts manner old mid r → r ≡ Ok done →
-    IfErr result (λ fault. session_code fault ≡ 77 → FailsToWrite input left from mid new (session_board fault)) →
-    IfErr result
-    (λ fault. session_code fault ≡ 77 → FailsToWriteIn manner input left from old new (session_board fault))
-behind_written old mid new input left manner r done from (Ok last) prompts is h = tt
-behind_written old mid new input left manner r done from (Err fault) prompts is h =
-    λ e. behind_write old mid new input left manner r done from (session_board fault) prompts is (h e)
+    → Prompts manner old mid r → r ≡ Ok done → IsSession Plain from (devices f a mid) (devices g c new) result
+    → IsSession manner from (devices f a old) (devices g c new) result
+behind_prompt {E} a c f g old mid new manner r done from (Ok board) prompts is h =
+    behind old mid manner r done (λ begun. ServesInput a c from begun new board) prompts is h
+behind_prompt {E} a c f g old mid new manner r done from (Err (fault.Read board)) prompts is h =
+    (h.0, behind old mid manner r done (λ begun. FailsToRead a c from begun new board) prompts is h.1)
+behind_prompt {E} a c f g old mid new manner r done from (Err (fault.Write board)) prompts is h = (
+  subst (λ (n : ℕ). Rose n new.failures) (prompts_kept old mid manner r done prompts is) h.0,
+  behind_write old mid new a c manner r done from board prompts is h.1,
+)
+behind_prompt {E} a c f g old mid new manner r done from (Err (fault.NoMemory board)) prompts is h =
+    behind old mid manner r done (λ begun. FindsNoMemory a c from begun new board) prompts is h
+
+-- a session whose first prompt is not written whole
+pub unprompted : {E : Type 0} (a : Option (List ℕ)) (f : ℕ) (old new : Device) (manner : Manner)
+    (r : Result (Unit {0}) E) (why : E) (from : SessionValue) → Prompts manner old new r → r ≡ Err why
+    → IsSession manner from (devices f a old) (devices f a new) (Err (fault.Write from.board))
+unprompted a f old new Plain r why from prompts is = let written = prompts.0 in cc
+unprompted a f old new Spoken (Ok done) why from prompts is = cc
+unprompted a f old new Spoken (Err refused) why from prompts is = (prompts.failures, inl (prompts, refl, refl))

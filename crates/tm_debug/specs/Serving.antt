@@ -4,7 +4,7 @@ use Rattle.std.specs.Prelude.{nat_lt, Option, Some, Result, Ok, Err}
 use Rattle.std.specs.List.{prefix_len}
 use Rattle.ia_lex.specs.Chars.{differs}
 use Rattle.ia_lex.specs.Lines.{lines_of}
-use Rattle.text_out.specs.Writing.{Device, Stopped, Writes, Wrote}
+use Rattle.text_out.specs.Writing.{Device, Rose, Stopped, Writes, Wrote}
 use Rattle.tm_hist.specs.Board.{ShownBoard as Board}
 use Rattle.debug_command.specs.declared.command.DebugCommand.{DebugCommand}
 use Rattle.debug_command.specs.declared.command.DebugCommand.TheVariants.{Quit}
@@ -16,7 +16,11 @@ use Rattle.tm_debug.specs.declared.line.Line.{Line}
 use Rattle.tm_debug.specs.declared.line.Line.TheVariants as read
 use Rattle.tm_debug.specs.declared.line.LineStart.{LineStart}
 use Rattle.tm_debug.specs.declared.session.Request.{Request}
-use Rattle.tm_debug.specs.declared.session.Request.TheVariants.{Leave, Nothing, Refuse, Do}
+use Rattle.tm_debug.specs.declared.session.Request.TheVariants.{Nothing, Refuse, Do}
+use Rattle.tm_debug.specs.declared.session.SessionFault.{SessionFault}
+use Rattle.tm_debug.specs.declared.session.SessionFault.TheVariants as fault
+use Rattle.tm_debug.specs.declared.interruption.Interruption.{Interruption}
+use Rattle.tm_debug.specs.declared.interruption.Interruption.TheVariants as interruption
 use Rattle.debug_command.specs.declared.manner.Manner.{Manner}
 use Rattle.debug_command.specs.declared.manner.Manner.TheVariants.{Plain, Spoken}
 use Rattle.debug_command.specs.Commands.{command_of}
@@ -24,27 +28,11 @@ use Rattle.debug_command.specs.Refusals.{refusal_line}
 use Rattle.tm_debug.specs.Session.{Answers, AnswersBroken, AnswerStopped, SessionValue, bye_line}
 use Rattle.debug_command.specs.Words.{first_word}
 
--- what a command requests
-abbrev pub request_for : Result DebugCommand CommandRefusal → Request
-request_for (Err refusal) = Refuse refusal
-request_for (Ok command.Quit) = Leave
-request_for (Ok command.Help) = Do command.Help
-request_for (Ok (command.Step core event)) = Do (command.Step core event)
-request_for (Ok (command.Run number)) = Do (command.Run number)
-request_for (Ok (command.Next number)) = Do (command.Next number)
-request_for (Ok (command.Back count)) = Do (command.Back count)
-request_for (Ok (command.Break address)) = Do (command.Break address)
-request_for (Ok (command.Clear address)) = Do (command.Clear address)
-request_for (Ok (command.Regs core)) = Do (command.Regs core)
-request_for (Ok (command.Mem at number)) = Do (command.Mem at number)
-request_for (Ok (command.Sets core)) = Do (command.Sets core)
-request_for (Ok (command.Why core)) = Do (command.Why core)
-request_for (Ok (command.List at number)) = Do (command.List at number)
-
 abbrev pub request_by : Bool → Bool → Result DebugCommand CommandRefusal → Request
 request_by true blank read = Refuse LongLine
 request_by false true read = Nothing
-request_by false false read = request_for read
+request_by false false (Err refusal) = Refuse refusal
+request_by false false (Ok command) = Do command
 
 -- by these symbols, a line of more than 256 bytes is refused, one without words requests nothing, and each other one is
 -- a command
@@ -54,19 +42,17 @@ request_of symbols line =
 
 -- the end of the input is as quit
 abbrev pub first_request : List Symbol → List (List ℕ) → Request
-first_request symbols [] = Leave
+first_request symbols [] = Do Quit
 first_request symbols (line ∷ lines) = request_of symbols line
 
--- the answer to a line that does not end the session
+-- the answer to a line
 abbrev pub Responds : Request → SessionValue → List ℕ → SessionValue → Type 0
-Responds Leave from text to = ⊥
 Responds Nothing from text to = (text ≡ []) × (to ≡ from)
 Responds (Refuse refusal) from text to = (text ≡ refusal_line from.manner refusal) × (to ≡ from)
 Responds (Do command) from text to = Answers command from text to
 
--- the same where the writing of it failed
+-- what stands of the answer to a line where the writing of it failed
 abbrev pub RespondsBroken : Request → SessionValue → Device → Device → SessionValue → Type 0
-RespondsBroken Leave from old new to = AnswerStopped (λ text after. (text ≡ bye_line) × (after ≡ from)) old new to
 RespondsBroken Nothing from old new to = ⊥
 RespondsBroken (Refuse refusal) from old new to =
     AnswerStopped (λ text after. (text ≡ refusal_line from.manner refusal) × (after ≡ from)) old new to
@@ -87,7 +73,7 @@ abbrev pub PromptStopped : (List ℕ → SessionValue → Type 0) → Device →
 PromptStopped answer old new to =
     (told : List ℕ) × (between : Device) × answer told to × Wrote old between told × Stopped between new prompt_text
 
--- the same where the writing of either failed
+-- what stands of an answer and its prompt where the writing of either failed
 abbrev pub PromptedBroken : Manner → (List ℕ → SessionValue → Type 0)
     → (Device → Device → SessionValue → Type 0) → Device → Device → SessionValue → Type 0
 PromptedBroken Plain answer broken old new to = broken old new to
@@ -100,6 +86,11 @@ abbrev pub RepliesBroken : Request → SessionValue → Device → Device → Se
 RepliesBroken request from old new to =
     PromptedBroken from.manner (Responds request from) (RespondsBroken request from) old new to
 
+-- the answer to the line that was read last was not written whole, with its prompt; none comes behind that to `quit`
+abbrev pub LastBroken : Request → SessionValue → Device → Device → SessionValue → Type 0
+LastBroken request from old new to = ((request ≡ Do Quit) × RespondsBroken request from old new to)
+    ⊎ ((request ≡ Do Quit → ⊥) × RepliesBroken request from old new to)
+
 -- a prompt is written in a spoken session alone
 abbrev pub Prompts : {E : Type 0} → Manner → Device → Device → Result (Unit {0}) E → Type 0
 Prompts Plain old new result = (result ≡ Ok tt) × (new ≡ old)
@@ -110,12 +101,13 @@ abbrev pub BehindPrompt : Manner → Device → (Device → Type 0) → Type 0
 BehindPrompt Plain old session = session old
 BehindPrompt Spoken old session = (between : Device) × Wrote old between prompt_text × session between
 
--- the answers to lines, one after another
+-- the answers to lines, one after another, none of which ends the session
 pub record First (more : SessionValue → List ℕ → SessionValue → Type 0) (line : List ℕ) (from : SessionValue)
     (text : List ℕ) (to : SessionValue) : Type 0 where
   pub between : SessionValue
   pub answer : List ℕ
   pub others : List ℕ
+  pub stays : request_of from.symbols line ≡ Do Quit → ⊥
   pub replies : Replies (request_of from.symbols line) from answer between
   pub go_on : more between others to
   pub whole : text ≡ answer ++ others
@@ -139,7 +131,7 @@ pub record Serves (xs rest : List ℕ) (from : SessionValue) (text : List ℕ) (
   pub taken : LinesRead xs rest front last
   pub told : List ℕ
   pub went : AnswersLines front from told to
-  pub ends : first_request to.symbols last ≡ Leave
+  pub ends : first_request to.symbols last ≡ Do Quit
   pub whole : text ≡ told ++ bye_line
 
 -- no byte of these is a line feed
@@ -157,7 +149,7 @@ pub record ServesRead (xs rest : List ℕ) (from : SessionValue) (text : List �
   pub went : AnswersLines (lines_of read) from text to
 
 -- a session that failed to write: the answers to the lines before the last that was read were written whole, and of its
--- own what `RepliesBroken` says
+-- own what `LastBroken` says
 pub record ServesWrite (xs rest : List ℕ) (from : SessionValue) (old new : Device) (to : SessionValue) : Type 0 where
   pub front : List (List ℕ)
   pub last : List (List ℕ)
@@ -167,7 +159,7 @@ pub record ServesWrite (xs rest : List ℕ) (from : SessionValue) (old new : Dev
   pub between : Device
   pub went : AnswersLines front from told before
   pub wrote : Wrote old between told
-  pub broken : RepliesBroken (first_request before.symbols last) before between new to
+  pub broken : LastBroken (first_request before.symbols last) before between new to
 
 -- a session that went to its end, where the input tells its bytes: the answers to its lines up to the one that ends it
 -- were written, nothing behind that was read, and this board is the one after the steps that they tell
@@ -188,7 +180,8 @@ abbrev pub FailsToWrite : Option (List ℕ) → Option (List ℕ) → SessionVal
 FailsToWrite input left from old new board = (xs : List ℕ) → input ≡ Some xs → (rest : List ℕ) × (to : SessionValue)
     × (left ≡ Some rest) × ServesWrite xs rest from old new to × (to.board ≡ board)
 
--- the same in this manner: the first prompt too may not stand there whole, and then no line was read
+-- a session in this manner that failed to write: the first prompt too may not stand there whole, and then no line was
+-- read
 abbrev pub FailsToWriteIn : Manner → Option (List ℕ) → Option (List ℕ) → SessionValue → Device → Device → Board → Type 0
 FailsToWriteIn Plain input left from old new board = FailsToWrite input left from old new board
 FailsToWriteIn Spoken input left from old new board =
@@ -214,7 +207,6 @@ TakesMemory command.Quit = ⊥
 
 abbrev pub WantsMemory : Request → Type 0
 WantsMemory (Do command) = TakesMemory command
-WantsMemory Leave = ⊥
 WantsMemory Nothing = ⊥
 WantsMemory (Refuse refusal) = ⊥
 
@@ -231,6 +223,37 @@ abbrev pub FindsNoMemory : Option (List ℕ) → Option (List ℕ) → SessionVa
 FindsNoMemory input left from old new board = (xs : List ℕ) → input ≡ Some xs → (rest : List ℕ) × (text : List ℕ)
     × (to : SessionValue) × (left ≡ Some rest) × ServesBefore xs rest from text to × (to.board ≡ board)
     × Wrote old new text
+
+-- ---- what a session gives back
+
+-- the devices of a session: how often its input has failed, what is left of it where it tells its bytes, and its output
+pub record Devices : Type 0 where
+  pub failed : ℕ
+  pub left : Option (List ℕ)
+  pub out : Device
+
+abbrev pub devices : ℕ → Option (List ℕ) → Device → Devices
+devices failed left out = record { failed = failed; left = left; out = out }
+
+-- a session in this manner from this state, by what it gives back: it went to its end, its input or its output failed,
+-- whose count of failures rose, or it found no memory
+abbrev pub IsSession : Manner → SessionValue → Devices → Devices → Result Board SessionFault → Type 0
+IsSession manner from old new (Ok board) =
+    BehindPrompt manner old.out (λ begun. ServesInput old.left new.left from begun new.out board)
+IsSession manner from old new (Err (fault.Read board)) =
+    Rose old.failed new.failed
+    × BehindPrompt manner old.out (λ begun. FailsToRead old.left new.left from begun new.out board)
+IsSession manner from old new (Err (fault.Write board)) =
+    Rose old.out.failures new.out.failures × FailsToWriteIn manner old.left new.left from old.out new.out board
+IsSession manner from old new (Err (fault.NoMemory board)) =
+    BehindPrompt manner old.out (λ begun. FindsNoMemory old.left new.left from begun new.out board)
+
+-- what is given back where lines were answered, and this board stands then
+abbrev pub given_back : Result (Unit {0}) Interruption → Board → Result Board SessionFault
+given_back (Ok done) board = Ok board
+given_back (Err interruption.Read) board = Err (fault.Read board)
+given_back (Err interruption.Write) board = Err (fault.Write board)
+given_back (Err interruption.NoMemory) board = Err (fault.NoMemory board)
 
 -- ---- lines as they are read
 

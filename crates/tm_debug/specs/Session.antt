@@ -467,7 +467,7 @@ Answers (Listing at number) from text to =
 Answers Help from text to = (text ≡ help_text) × (to ≡ from)
 Answers Quit from text to = (text ≡ bye_line) × (to ≡ from)
 
--- the same where the writing of it failed
+-- what stands of each command's answer where the writing of it failed, and what it leads to
 abbrev pub AnswersBroken : DebugCommand → SessionValue → Device → Device → SessionValue → Type 0
 AnswersBroken (Run number) from old new to = RunAnswerBroken InTurn number from old new to
 AnswersBroken (Next number) from old new to = RunAnswerBroken AlongPlan number from old new to

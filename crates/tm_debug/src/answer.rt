@@ -17,7 +17,7 @@ ghost use Rattle.debug_command.specs.Refusals.{refusal_line};
 ghost use Rattle.text_out.specs.TextLine.{line_end};
 
 use crate::state::{MOST_BREAKPOINTS, RunCheck, SessionState};
-use crate::told::{told_step, write_told};
+use crate::told::{make_step, write_told};
 use debug_command::{CommandRefusal, Manner, Range, refuse, write_labelled, write_place};
 use ia_image::Program;
 use symbols::Symbol;
@@ -74,7 +74,7 @@ pub fn step<O: Out>(
         return refuse_core(state, out);
     };
     let manner = state.manner;
-    match told_step(state, Pick { core, event }) {
+    match make_step(state, Pick { core, event }) {
         Ok(told) => write_told(state.told_labels(), core, &told, out),
         Err(StepFault::NoSuchCore) => refuse_core(state, out),
         Err(StepFault::LimitReached) => refuse(manner, CommandRefusal::LimitReached, out),

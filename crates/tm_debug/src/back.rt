@@ -70,8 +70,6 @@ pub fn back<O: Out>(
     if count < 1 || count > made {
         return answer_result(refuse(state.manner, CommandRefusal::OutOfRange(Range::Made), out));
     }
-    match take_back(alloc, state, count) {
-        Ok(()) => answer_result(write_made(made - count, out)),
-        Err(_) => Err(Interruption::NoMemory),
-    }
+    take_back(alloc, state, count)?;
+    answer_result(write_made(made - count, out))
 }

@@ -5,7 +5,9 @@
 
 ghost use Rattle.std.specs.Prelude.{◌≡◌, Err};
 ghost use Rattle.tm_debug.specs.Session.{answer_result};
+ghost use Rattle.tm_debug.specs.declared.interruption.Interruption.TheVariants.{NoMemory};
 
+use std::alloc::AllocError;
 use text_out::WriteFault;
 
 /// What ends a session before its input does: [`SessionFault`](crate::SessionFault) without the board.
@@ -17,6 +19,14 @@ pub enum Interruption {
     Write,
     /// There was no memory for an answer.
     NoMemory,
+}
+
+impl From<AllocError> for Interruption {
+    ghost from_gives = { λ _ interruption. interruption ≡ NoMemory };
+
+    fn from(_refused: AllocError) -> Interruption {
+        Interruption::NoMemory
+    }
 }
 
 /// The result of writing an answer, with a fault in writing as what interrupts the session.

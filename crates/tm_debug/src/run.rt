@@ -12,7 +12,7 @@ ghost use Rattle.tm_debug.specs.Session.{value_of};
 
 use crate::answer::end_run;
 use crate::state::{RunCheck, SessionState, Way};
-use crate::told::{told_step, write_told};
+use crate::told::{make_step, write_told};
 use debug_command::{CommandRefusal, Range, refuse};
 use text_out::{Out, WriteFault};
 use tm_model::Pick;
@@ -24,7 +24,7 @@ fn go<O: Out>(state: &mut SessionState, pick: Pick, out: &mut O) -> Result<(), W
     ensures { TellsAnswer (GoAnswer (value_of state.old) pick) (O.device out.old) (O.device out.new)
         (value_of state.new) result }
 {
-    match told_step(state, pick) {
+    match make_step(state, pick) {
         Ok(told) => write_told(state.told_labels(), pick.core, &told, out),
         Err(_) => unreachable!(),
     }

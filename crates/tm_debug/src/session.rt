@@ -5,13 +5,11 @@
 //! and each gives the board back. What is answered stands in `answer`, `run` and the modules that have a command's
 //! name.
 
-ghost use Rattle.std.specs.Prelude.{◌≡◌, ℕ, List, Err, IfErr, IfOk, MatchResult, OnOk};
-ghost use Rattle.text_out.specs.Writing.{Rose, Stopped, Writes, Wrote};
-ghost use Rattle.tm_debug.specs.Session.{Answers, AnswersBroken, Ends, SessionValue, bye_line, value_of, start};
-ghost use Rattle.tm_debug.specs.Session.{start_in};
-ghost use Rattle.tm_debug.specs.Serving.{BehindPrompt, FailsToRead, FailsToWrite, FailsToWriteIn, FindsNoMemory};
-ghost use Rattle.tm_debug.specs.Serving.{IsLine, Replies, RepliesBroken, Responds, RespondsBroken, ServesInput};
-ghost use Rattle.tm_debug.specs.Serving.{TakesMemory, WantsMemory, request_of};
+ghost use Rattle.std.specs.Prelude.{◌≡◌, ℕ, List, Err, false, true};
+ghost use Rattle.text_out.specs.Writing.{Writes};
+ghost use Rattle.tm_debug.specs.Session.{Answers, AnswersBroken, Ends, bye_line, start, start_in, value_of};
+ghost use Rattle.tm_debug.specs.Serving.{IsLine, IsSession, Replies, RepliesBroken, Responds, RespondsBroken};
+ghost use Rattle.tm_debug.specs.Serving.{TakesMemory, WantsMemory, devices, given_back, request_of};
 ghost use Rattle.tm_debug.specs.Faults.{session_board, session_code};
 
 use crate::answer::{clear_breakpoint, list, mem, regs, set_breakpoint, step};
@@ -92,13 +90,11 @@ impl SessionFault {
 /// What a line requests.
 #[derive(Clone, Copy, PartialEq, Eq)]
 pub enum Request {
-    /// The end of the session.
-    Leave,
     /// Nothing: the line is blank.
     Nothing,
     /// It is refused.
     Refuse(CommandRefusal),
-    /// A command, and not that to leave.
+    /// A command. The end of the input requests `quit`.
     Do(DebugCommand),
 }
 
@@ -115,7 +111,6 @@ fn text_request(symbols: &[Symbol], line: &[u8]) -> Request
         return Request::Nothing;
     }
     match read_command(symbols, line) {
-        Ok(DebugCommand::Quit) => Request::Leave,
         Ok(command) => Request::Do(command),
         Err(refusal) => Request::Refuse(refusal),
     }
@@ -170,69 +165,62 @@ fn part<O: Out>(out: &mut O) -> Result<(), WriteFault>
     Ok(())
 }
 
-// Answers a line that does not end the session.
+// Answers a line.
 fn respond<O: Out>(
     alloc: Global,
     state: &mut SessionState,
     request: Request,
     out: &mut O,
 ) -> Result<(), Interruption>
-    requires { request ≡ Request.Leave → ⊥ }
     ensures answer { Ends (Responds request (value_of state.old)) (RespondsBroken request (value_of state.old))
         (O.device out.old) (O.device out.new) (value_of state.old) (value_of state.new) result }
     ensures memory { result ≡ Err Interruption.NoMemory → WantsMemory request }
 {
     match request {
-        Request::Leave => unreachable!(),
         Request::Nothing => Ok(()),
         Request::Refuse(refusal) => answer_result(refuse(state.manner, refusal, out)),
         Request::Do(command) => act(alloc, state, command, out),
     }
 }
 
-// Answers a line that does not end the session, and asks for the next.
+// Answers a line, and asks for the next.
 fn reply<O: Out>(
     alloc: Global,
     state: &mut SessionState,
     request: Request,
     out: &mut O,
 ) -> Result<(), Interruption>
-    requires { request ≡ Request.Leave → ⊥ }
     ensures answer { Ends (Replies request (value_of state.old)) (RepliesBroken request (value_of state.old))
         (O.device out.old) (O.device out.new) (value_of state.old) (value_of state.new) result }
     ensures memory { result ≡ Err Interruption.NoMemory → WantsMemory request }
 {
     let manner = state.manner;
-    match respond(alloc, state, request, out) {
-        Ok(()) => answer_result(prompt(manner, out)),
-        Err(interruption) => Err(interruption),
-    }
+    respond(alloc, state, request, out)?;
+    answer_result(prompt(manner, out))
 }
 
 // What a line requests in this state.
 fn line_request(state: &SessionState, line: &Line) -> Request
     ensures text { (text : List ℕ) → IsLine text line.now → result ≡ request_of (value_of state.now).symbols text }
-    ensures end { line.now ≡ Line.End → result ≡ Request.Leave }
+    ensures end { line.now ≡ Line.End → result ≡ Request.Do DebugCommand.Quit }
 {
     match line {
-        Line::End => Request::Leave,
+        Line::End => Request::Do(DebugCommand::Quit),
         Line::Text(row) => text_request(state.names.symbols.as_slice(), row.as_slice()),
         Line::Long => Request::Refuse(CommandRefusal::LongLine),
     }
 }
 
-// The parting word at the end of the session.
-fn leave<O: Out>(out: &mut O) -> Result<(), Interruption>
-    ensures { MatchResult result (λ _. Wrote (O.device out.old) (O.device out.new) bye_line)
-        (λ fault. (fault ≡ Interruption.Write) × Stopped (O.device out.old) (O.device out.new) bye_line) }
+// Whether a request ends the session.
+fn is_end(request: Request) -> bool
+    ensures end { result ≡ true → request ≡ Request.Do DebugCommand.Quit }
+    ensures other { result ≡ false → request ≡ Request.Do DebugCommand.Quit → ⊥ }
 {
-    match part(out) {
-        Ok(()) => Ok(()),
-        Err(_) => Err(Interruption::Write),
-    }
+    matches!(request, Request::Do(DebugCommand::Quit))
 }
 
-// Answers lines up to the first that ends the session.
+// Answers lines up to the first that ends the session. The prompt before the first is the caller's: from there on the
+// session begins as a plain one.
 fn serve_lines<W: Wait, I: In, O: Out>(
     rt: &W,
     alloc: Global,
@@ -240,16 +228,10 @@ fn serve_lines<W: Wait, I: In, O: Out>(
     input: &mut I,
     out: &mut O,
 ) -> Result<(), Interruption>
-    ensures ok { OnOk result (ServesInput (I.remaining input.old) (I.remaining input.new) (value_of state.old)
-        (O.device out.old) (O.device out.new) state.new.board) }
-    ensures read { result ≡ Err Interruption.Read → Rose (I.failed input.old) (I.failed input.new) }
-    ensures read_lines { result ≡ Err Interruption.Read → FailsToRead (I.remaining input.old) (I.remaining input.new)
-        (value_of state.old) (O.device out.old) (O.device out.new) state.new.board }
-    ensures write { result ≡ Err Interruption.Write → Rose (O.device out.old).failures (O.device out.new).failures }
-    ensures written { result ≡ Err Interruption.Write → FailsToWrite (I.remaining input.old) (I.remaining input.new)
-        (value_of state.old) (O.device out.old) (O.device out.new) state.new.board }
-    ensures memory { result ≡ Err Interruption.NoMemory → FindsNoMemory (I.remaining input.old)
-        (I.remaining input.new) (value_of state.old) (O.device out.old) (O.device out.new) state.new.board }
+    ensures { IsSession Manner.Plain (value_of state.old)
+        (devices (I.failed input.old) (I.remaining input.old) (O.device out.old))
+        (devices (I.failed input.new) (I.remaining input.new) (O.device out.new))
+        (given_back result state.new.board) }
 {
     'lines: for _ in rt.forever() {
         let line = match read_line(rt, input) {
@@ -257,19 +239,16 @@ fn serve_lines<W: Wait, I: In, O: Out>(
             Err(_) => return Err(Interruption::Read),
         };
         let request = line_request(state, &line);
-        match request {
-            Request::Leave => return leave(out),
-            Request::Nothing | Request::Refuse(_) | Request::Do(_) => {}
+        if is_end(request) {
+            // No prompt comes behind it, as no further line is read.
+            return respond(alloc, state, request, out);
         }
-        match reply(alloc, state, request, out) {
-            Ok(()) => {}
-            Err(interruption) => return Err(interruption),
-        }
+        reply(alloc, state, request, out)?;
     }
     unreachable!()
 }
 
-// Answers the lines of the input from this state on.
+// Answers the lines of the input from this state on, behind the first prompt.
 fn serve_from<W: Wait, I: In, O: Out>(
     rt: &W,
     alloc: Global,
@@ -277,20 +256,9 @@ fn serve_from<W: Wait, I: In, O: Out>(
     input: &mut I,
     out: &mut O,
 ) -> Result<Board, SessionFault>
-    ensures ok { IfOk result (ServesInput (I.remaining input.old) (I.remaining input.new) (value_of state)
-        (O.device out.old) (O.device out.new)) }
-    ensures read { IfErr result (λ fault. session_code fault ≡ 76 → Rose (I.failed input.old) (I.failed input.new)) }
-    ensures read_lines { IfErr result (λ fault. session_code fault ≡ 76
-        → FailsToRead (I.remaining input.old) (I.remaining input.new) (value_of state) (O.device out.old)
-        (O.device out.new) (session_board fault)) }
-    ensures write { IfErr result (λ fault. session_code fault ≡ 77
-        → Rose (O.device out.old).failures (O.device out.new).failures) }
-    ensures written { IfErr result (λ fault. session_code fault ≡ 77
-        → FailsToWrite (I.remaining input.old) (I.remaining input.new) (value_of state) (O.device out.old)
-        (O.device out.new) (session_board fault)) }
-    ensures memory { IfErr result (λ fault. session_code fault ≡ 78
-        → FindsNoMemory (I.remaining input.old) (I.remaining input.new) (value_of state) (O.device out.old)
-        (O.device out.new) (session_board fault)) }
+    ensures { IsSession Manner.Plain (value_of state)
+        (devices (I.failed input.old) (I.remaining input.old) (O.device out.old))
+        (devices (I.failed input.new) (I.remaining input.new) (O.device out.new)) result }
 {
     let mut state = state;
     match serve_lines(rt, alloc, &mut state, input, out) {
@@ -328,21 +296,9 @@ impl<'a, I: In, O: Out> Session<'a, I, O> {
     /// whole.
     // `self.exit.0` is the input that the call left, and `self.exit.1.0` the device for answers.
     pub fn serve<W: Wait>(self, rt: &W, alloc: Global) -> Result<Board, SessionFault>
-        ensures ok { IfOk result (ServesInput (I.remaining self.entry.input.now) (I.remaining self.exit.0.now)
-            (start self.entry.board) (O.device self.entry.out.now) (O.device self.exit.1.0.now)) }
-        ensures read { IfErr result (λ fault. session_code fault ≡ 76
-            → Rose (I.failed self.entry.input.now) (I.failed self.exit.0.now)) }
-        ensures read_lines { IfErr result (λ fault. session_code fault ≡ 76
-            → FailsToRead (I.remaining self.entry.input.now) (I.remaining self.exit.0.now) (start self.entry.board)
-            (O.device self.entry.out.now) (O.device self.exit.1.0.now) (session_board fault)) }
-        ensures write { IfErr result (λ fault. session_code fault ≡ 77
-            → Rose (O.device self.entry.out.now).failures (O.device self.exit.1.0.now).failures) }
-        ensures written { IfErr result (λ fault. session_code fault ≡ 77
-            → FailsToWrite (I.remaining self.entry.input.now) (I.remaining self.exit.0.now) (start self.entry.board)
-            (O.device self.entry.out.now) (O.device self.exit.1.0.now) (session_board fault)) }
-        ensures memory { IfErr result (λ fault. session_code fault ≡ 78
-            → FindsNoMemory (I.remaining self.entry.input.now) (I.remaining self.exit.0.now) (start self.entry.board)
-            (O.device self.entry.out.now) (O.device self.exit.1.0.now) (session_board fault)) }
+        ensures { IsSession Manner.Plain (start self.entry.board)
+            (devices (I.failed self.entry.input.now) (I.remaining self.entry.input.now) (O.device self.entry.out.now))
+            (devices (I.failed self.exit.0.now) (I.remaining self.exit.0.now) (O.device self.exit.1.0.now)) result }
     {
         let Session { input, out, board } = self;
         serve_from(rt, alloc, SessionState::plain(alloc, board), input, out)
@@ -357,20 +313,9 @@ pub fn serve<W: Wait, I: In, O: Out>(
     input: &mut I,
     out: &mut O,
 ) -> Result<Board, SessionFault>
-    ensures ok { IfOk result (ServesInput (I.remaining input.old) (I.remaining input.new) (start board)
-        (O.device out.old) (O.device out.new)) }
-    ensures read { IfErr result (λ fault. session_code fault ≡ 76 → Rose (I.failed input.old) (I.failed input.new)) }
-    ensures read_lines { IfErr result (λ fault. session_code fault ≡ 76
-        → FailsToRead (I.remaining input.old) (I.remaining input.new) (start board) (O.device out.old)
-        (O.device out.new) (session_board fault)) }
-    ensures write { IfErr result (λ fault. session_code fault ≡ 77
-        → Rose (O.device out.old).failures (O.device out.new).failures) }
-    ensures written { IfErr result (λ fault. session_code fault ≡ 77
-        → FailsToWrite (I.remaining input.old) (I.remaining input.new) (start board) (O.device out.old)
-        (O.device out.new) (session_board fault)) }
-    ensures memory { IfErr result (λ fault. session_code fault ≡ 78
-        → FindsNoMemory (I.remaining input.old) (I.remaining input.new) (start board) (O.device out.old)
-        (O.device out.new) (session_board fault)) }
+    ensures { IsSession Manner.Plain (start board)
+        (devices (I.failed input.old) (I.remaining input.old) (O.device out.old))
+        (devices (I.failed input.new) (I.remaining input.new) (O.device out.new)) result }
 {
     Session::new(board, input, out).serve(rt, alloc)
 }
@@ -389,24 +334,9 @@ pub fn serve_in<W: Wait, I: In, O: Out>(
     input: &mut I,
     out: &mut O,
 ) -> Result<Board, SessionFault>
-    ensures ok { IfOk result (λ last. BehindPrompt manner (O.device out.old) (λ begun. ServesInput
-        (I.remaining input.old) (I.remaining input.new)
-        (start_in manner plan.items names.symbols.items names.labels.items board) begun (O.device out.new) last)) }
-    ensures read { IfErr result (λ fault. session_code fault ≡ 76 → Rose (I.failed input.old) (I.failed input.new)) }
-    ensures read_lines { IfErr result (λ fault. session_code fault ≡ 76
-        → BehindPrompt manner (O.device out.old) (λ begun. FailsToRead (I.remaining input.old)
-        (I.remaining input.new) (start_in manner plan.items names.symbols.items names.labels.items board) begun
-        (O.device out.new) (session_board fault))) }
-    ensures write { IfErr result (λ fault. session_code fault ≡ 77
-        → Rose (O.device out.old).failures (O.device out.new).failures) }
-    ensures written { IfErr result (λ fault. session_code fault ≡ 77
-        → FailsToWriteIn manner (I.remaining input.old) (I.remaining input.new)
-        (start_in manner plan.items names.symbols.items names.labels.items board)
-        (O.device out.old) (O.device out.new) (session_board fault)) }
-    ensures memory { IfErr result (λ fault. session_code fault ≡ 78
-        → BehindPrompt manner (O.device out.old) (λ begun. FindsNoMemory (I.remaining input.old)
-        (I.remaining input.new) (start_in manner plan.items names.symbols.items names.labels.items board) begun
-        (O.device out.new) (session_board fault))) }
+    ensures { IsSession manner (start_in manner plan.items names.symbols.items names.labels.items board)
+        (devices (I.failed input.old) (I.remaining input.old) (O.device out.old))
+        (devices (I.failed input.new) (I.remaining input.new) (O.device out.new)) result }
 {
     match prompt(manner, out) {
         Ok(()) => serve_from(

@@ -109,8 +109,6 @@ pub fn sets<O: Out>(
     let Some(core) = core_of(state, core) else {
         return answer_result(refuse_core(state, out));
     };
-    match sets_line(alloc, state.board.machine(), core) {
-        Ok(text) => answer_result(put_line(text.as_slice(), out)),
-        Err(_) => Err(Interruption::NoMemory),
-    }
+    let text = sets_line(alloc, state.board.machine(), core)?;
+    answer_result(put_line(text.as_slice(), out))
 }

@@ -1,6 +1,6 @@
 //! Steps, and their lines: in a spoken session each goes on with what the step did.
 //!
-//! [`told_step`] looks at the machine before the step and behind it (`tm_trace`), where that is told, and
+//! [`make_step`] looks at the machine before the step and behind it (`tm_trace`), where that is told, and
 //! [`write_told`] writes it afterwards: a step whose line cannot be written was made. A step that the board refuses
 //! is no step, and its refusal is told by the caller.
 
@@ -20,13 +20,13 @@ use tm_trace::{Before, Deed, write_step};
 
 /// The outcome of a step, and what it did, where the session tells that.
 #[derive(Clone, Copy, PartialEq, Eq, Debug)]
-pub struct Told {
+pub struct ToldStep {
     pub outcome: Outcome,
     pub deed: Option<Deed>,
 }
 
 /// One step of a pick's core, with what is told of it. Takes no memory.
-pub fn told_step(state: &mut SessionState, pick: Pick) -> Result<Told, StepFault>
+pub fn make_step(state: &mut SessionState, pick: Pick) -> Result<ToldStep, StepFault>
     ensures none { result ≡ Err StepFault.NoSuchCore ↔ (length state.old.board.program.entries ≤ pick.core) }
     ensures full { result ≡ Err StepFault.LimitReached ↔
         ((pick.core < length state.old.board.program.entries) × IsFull state.old.board) }
@@ -42,7 +42,7 @@ pub fn told_step(state: &mut SessionState, pick: Pick) -> Result<Told, StepFault
 }
 
 // The step of a session that tells nothing of what it did.
-fn plain_step(state: &mut SessionState, pick: Pick) -> Result<Told, StepFault>
+fn plain_step(state: &mut SessionState, pick: Pick) -> Result<ToldStep, StepFault>
     ensures none { result ≡ Err StepFault.NoSuchCore ↔ (length state.old.board.program.entries ≤ pick.core) }
     ensures full { result ≡ Err StepFault.LimitReached ↔
         ((pick.core < length state.old.board.program.entries) × IsFull state.old.board) }
@@ -51,14 +51,14 @@ fn plain_step(state: &mut SessionState, pick: Pick) -> Result<Told, StepFault>
         IsTold Manner.Plain state.old.board pick.core told.outcome state.new.board told.deed) }
     ensures err { OnErr result (value_of state.new ≡ value_of state.old) }
 {
-    Ok(Told {
+    Ok(ToldStep {
         outcome: state.step(pick)?,
         deed: None,
     })
 }
 
 // The step of one that tells what it did.
-fn spoken_step(state: &mut SessionState, pick: Pick) -> Result<Told, StepFault>
+fn spoken_step(state: &mut SessionState, pick: Pick) -> Result<ToldStep, StepFault>
     ensures none { result ≡ Err StepFault.NoSuchCore ↔ (length state.old.board.program.entries ≤ pick.core) }
     ensures full { result ≡ Err StepFault.LimitReached ↔
         ((pick.core < length state.old.board.program.entries) × IsFull state.old.board) }
@@ -71,7 +71,7 @@ fn spoken_step(state: &mut SessionState, pick: Pick) -> Result<Told, StepFault>
         return Err(StepFault::NoSuchCore);
     };
     let outcome = state.step(pick)?;
-    Ok(Told {
+    Ok(ToldStep {
         outcome,
         deed: Some(deed_behind(state, &before, pick.core, &outcome)),
     })
@@ -103,7 +103,7 @@ fn deed_behind(state: &SessionState, before: &Before, core: u8, outcome: &Outcom
 pub fn write_told<O: Out>(
     labels: &[Symbol],
     core: u8,
-    told: &Told,
+    told: &ToldStep,
     out: &mut O,
 ) -> Result<(), WriteFault>
     ensures { Writes (O.device out.old) (O.device out.new)

@@ -35,10 +35,8 @@ pub fn why<O: Out>(
     let Some(core) = core_of(state, core) else {
         return answer_result(refuse_core(state, out));
     };
-    match watched(alloc, &state.board) {
-        Ok(watch) => answer_result(tell(core, reason_of(&state.board, &watch, core), out)),
-        Err(_) => Err(Interruption::NoMemory),
-    }
+    let watch = watched(alloc, &state.board)?;
+    answer_result(tell(core, reason_of(&state.board, &watch, core), out))
 }
 
 // The reason, or that there is none.

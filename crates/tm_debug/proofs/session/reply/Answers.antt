@@ -6,8 +6,8 @@ use Rattle.tm_debug.specs.Serving.{Replies, RepliesBroken, Responds, RespondsBro
 use Rattle.tm_debug.proofs.Spoken.{prompted}
 use Rattle.tm_debug.proofs.session.reply.Goals as goal
 
-pub returns-in-Ok-clause-answer : goal.returns-in-Ok-clause-answer
-returns-in-Ok-clause-answer g c =
+pub returns-clause-answer : goal.returns-clause-answer
+returns-clause-answer g c =
     subst (λ (r : Result (Unit {0}) Interruption). Ends (Replies c.args.request (value_of c.args.state.now))
     (RepliesBroken c.args.request (value_of c.args.state.now)) (g.O.Out.device c.args.out.now)
     (g.O.Out.device c.prompt.new.out) (value_of c.args.state.now) (value_of c.respond.new.state) r)
@@ -15,4 +15,4 @@ returns-in-Ok-clause-answer g c =
     (prompted (g.O.Out.device c.prompt.new.out) c.args.state.now.manner
     (Responds c.args.request (value_of c.args.state.now)) (RespondsBroken c.args.request (value_of c.args.state.now))
     (value_of c.args.state.now)
-    (value_of c.respond.new.state) c.prompt.result c.in-Ok.ensures.answer c.prompt.ensures)
+    (value_of c.respond.new.state) c.prompt.result c.in_ok-respond.ensures.answer c.prompt.ensures)
