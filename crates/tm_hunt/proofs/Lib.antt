@@ -5,5 +5,6 @@ pub mod Halts
 pub mod Left
 pub mod Told
 pub mod KeptKinds
+pub mod Shortenings
 pub mod Costs
 pub mod Cycles

@@ -5,5 +5,6 @@ pub mod Attempts
 pub mod Cost
 pub mod Kept
 pub mod Deciding
+pub mod Shortening
 pub mod Cycle
 pub mod Chase

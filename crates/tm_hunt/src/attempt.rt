@@ -72,7 +72,7 @@ pub fn try_run<S: StepSource>(
 {
     run(trial, board, source);
     board.is_run();
-    judged(alloc, trial, board)
+    judge(alloc, trial, board)
 }
 
 /// How many steps a uniform run takes: the length by which priorities fall.
@@ -87,7 +87,7 @@ pub fn usual_length(alloc: Global, trial: &Trial<'_>) -> Result<u32, HuntFault>
 
 // What the run of a board came to.
 #[tactic(auto, using(crate::proofs::Ending::was_cut))]
-fn judged(alloc: Global, trial: &Trial<'_>, board: &Board) -> Result<Attempt, HuntFault>
+fn judge(alloc: Global, trial: &Trial<'_>, board: &Board) -> Result<Attempt, HuntFault>
     requires over { IsOver trial.now board.now }
     ensures ok { IfOk result (ComesTo trial.now board.now) }
     ensures err { IfErr result (IsRefusal trial.now) }

@@ -65,11 +65,11 @@ pub fn find_cycle(
         fast,
         differs_at: 0,
     };
-    Ok(told(trial, chase, picks, failure.front, round))
+    Ok(cycle_of(trial, chase, picks, failure.front, round))
 }
 
 // The loop that two machines find behind so many steps, where it is one.
-fn told(
+fn cycle_of(
     trial: &Trial<'_>,
     mut chase: Chase<'_>,
     picks: &[Pick],
@@ -81,11 +81,8 @@ fn told(
     ensures round { IfSome result (GoesRound trial.now picks.now) }
 {
     let cycle = chase.cycle(trial, front, round)?;
-    let Chase { slow, fast, .. } = chase;
-    let Walker { machine: shown, .. } = slow;
-    let Walker { mut machine, .. } = fast;
     // That the machines met proves nothing: what is told was made.
-    if cycle.start >= front && cycle.is_made(trial, &shown, &mut machine, picks, round) {
+    if cycle.start >= front && cycle.is_made(trial, &mut chase, picks, round) {
         Some(cycle)
     } else {
         None
@@ -93,17 +90,10 @@ fn told(
 }
 
 impl Cycle {
-    // Makes it on a machine of the trial: whether the steps before it lead to what another machine shows, and its own
-    // steps, rounds of so many, back to that.
-    fn is_made(
-        self,
-        trial: &Trial<'_>,
-        shown: &Machine,
-        machine: &mut Machine,
-        picks: &[Pick],
-        round: usize,
-    ) -> bool
-        requires { IsMachineOf trial.now machine.old }
+    // Makes it on the fast machine: whether the steps before it lead to what the slow one shows, and its own steps,
+    // rounds of so many, back to that.
+    fn is_made(self, trial: &Trial<'_>, chase: &mut Chase<'_>, picks: &[Pick], round: usize) -> bool
+        requires { IsChaseOf trial.now chase.old }
         ensures { IsTrue result → GoesRound trial.now picks.now self }
     {
         if self.steps == 0 || self.start > picks.len() || self.steps > picks.len() - self.start {
@@ -111,6 +101,8 @@ impl Cycle {
         }
         let (before, behind) = picks.split_at(self.start);
         let (steps, _rest) = behind.split_at(self.steps);
+        let shown = &chase.slow.machine;
+        let machine = &mut chase.fast.machine;
         if !leads_there(trial, shown, machine, before) {
             return false;
         }

@@ -8,7 +8,8 @@ ghost use Rattle.std.specs.Prelude.{◌≡◌, ◌≤◌, IfErr, IfOk, IfSome};
 ghost use Rattle.tm_hunt.specs.Attempts.{IsFailure, IsRefusal};
 ghost use Rattle.tm_hunt.specs.Deciding.{cost_told};
 ghost use Rattle.tm_hunt.specs.Hunt.{IsTrialOf};
-ghost use Rattle.tm_hunt.specs.Kept.{KeepKinds, KeepsKinds};
+ghost use Rattle.tm_hunt.specs.Kept.{KeepsKinds};
+ghost use Rattle.tm_hunt.specs.Shortening.{CanShorten, Shortens};
 ghost use Rattle.tm_pick.specs.Kinds.{AreAmong, AreOfKinds};
 ghost use Rattle.tm_pick.specs.declared.kinds.Kinds.{Kinds};
 
@@ -25,6 +26,15 @@ use tm_pick::Picker;
 
 /// The most tries of each of the ways to make a schedule shorter.
 const MOST_TRIES: u32 = 4096;
+
+/// The front of a schedule that is made shorter, and the board on which each try is made.
+#[derive(Drop)]
+pub struct Front {
+    /// The steps that are picked; behind them the run goes to its end, or to the limit.
+    pub steps: Vec<Pick>,
+    /// The trial's board.
+    pub board: Board,
+}
 
 /// Makes a failing schedule shorter, which fails then by the same check: its shortest front, with which the run fails
 /// where the cores then run to their ends one after another; then the front without some of its events; then without
@@ -43,35 +53,33 @@ pub fn shorten(alloc: Global, trial: &Trial<'_>, best: &mut Failure) -> Result<(
     ensures kinds { KeepsKinds best.old.picks.items best.new.picks.items }
     ensures err { IfErr result (IsRefusal trial.now) }
 {
-    let mut front = Vec::from_slice(alloc, best.picks.as_slice())?;
-    let mut board = board_of(alloc, trial)?;
-    shorten_front(alloc, trial, &mut board, &mut front, best)
+    let steps = Vec::from_slice(alloc, best.picks.as_slice())?;
+    let board = board_of(alloc, trial)?;
+    let mut front = Front { steps, board };
+    front.shorten(alloc, trial, best)
 }
 
-// Makes the front of a schedule shorter.
-#[tactic(auto, using(crate::proofs::KeptKinds::keep_more))]
-fn shorten_front(
-    alloc: Global,
-    trial: &Trial<'_>,
-    board: &mut Board,
-    front: &mut Vec<Pick>,
-    best: &mut Failure,
-) -> Result<(), HuntFault>
-    requires fails { IsFailure trial.now best.old }
-    requires of_trial { IsTrialOf trial.now board.old }
-    ensures fails { IsFailure trial.now best.new }
-    ensures same { best.new.check ≡ best.old.check }
-    ensures simpler { cost_told best.new ≤ cost_told best.old }
-    ensures kinds { KeepKinds front.old.items best.old.picks.items front.new.items best.new.picks.items }
-    ensures of_trial { IsTrialOf trial.now board.new }
-    ensures err { IfErr result (IsRefusal trial.now) }
-{
-    cut_behind(alloc, trial, board, front, best)?;
-    cut_events(alloc, trial, board, front, best)?;
-    cut_bursts(alloc, trial, board, front, best)?;
-    cut_steps(alloc, trial, board, front, best)?;
-    join_bursts(alloc, trial, board, front, best)?;
-    cut_steps(alloc, trial, board, front, best)
+impl Front {
+    // Makes the front of a schedule shorter.
+    #[tactic(auto, using(crate::proofs::Shortenings::shortenings))]
+    fn shorten(
+        &mut self,
+        alloc: Global,
+        trial: &Trial<'_>,
+        best: &mut Failure,
+    ) -> Result<(), HuntFault>
+        requires { CanShorten trial.now self.old best.old }
+        ensures shorter { Shortens trial.now self.old best.old self.new best.new }
+        ensures err { IfErr result (IsRefusal trial.now) }
+    {
+        self.cut_behind(alloc, trial, best)?;
+        self.cut_events(alloc, trial, best)?;
+        self.cut_bursts(alloc, trial, best)?;
+        self.cut_steps(alloc, trial, best)?;
+        self.join_bursts(alloc, trial, best)?;
+        // Once more: where bursts were joined, steps may go that had to stay before.
+        self.cut_steps(alloc, trial, best)
+    }
 }
 
 // What makes the run of a front, where that of the failure to be made shorter has so many steps: where it reached the
@@ -102,13 +110,13 @@ fn failure_of(
 {
     let mut picker = picker_of(trial, front, length);
     match try_run(alloc, trial, board, &mut picker)? {
-        Attempt::Failed(failure) => Ok(Some(decided(trial, failure, picker.made_of_list()))),
+        Attempt::Failed(failure) => Ok(Some(decide(trial, failure, picker.made_of_list()))),
         Attempt::Ended | Attempt::Cut => Ok(None),
     }
 }
 
 // A failure of which so many first steps decide, where its run reached the limit, and else all.
-fn decided(trial: &Trial<'_>, failure: Failure, made: usize) -> Failure
+fn decide(trial: &Trial<'_>, failure: Failure, made: usize) -> Failure
     requires { IsFailure trial.now failure }
     ensures fails { IsFailure trial.now result }
     ensures picks { result.picks.items ≡ failure.picks.items }
@@ -130,230 +138,193 @@ fn decided(trial: &Trial<'_>, failure: Failure, made: usize) -> Failure
     }
 }
 
-// Tries another front, and takes it where it fails.
-#[tactic(auto, using(crate::proofs::KeptKinds::trying))]
-fn try_front(
-    alloc: Global,
-    trial: &Trial<'_>,
-    board: &mut Board,
-    front: &mut Vec<Pick>,
-    other: Vec<Pick>,
-    best: &mut Failure,
-) -> Result<bool, HuntFault>
-    requires fails { IsFailure trial.now best.old }
-    requires of_trial { IsTrialOf trial.now board.old }
-    requires kinds { KeepsKinds front.old.items other.items }
-    ensures fails { IsFailure trial.now best.new }
-    ensures same { best.new.check ≡ best.old.check }
-    ensures simpler { cost_told best.new ≤ cost_told best.old }
-    ensures kinds { KeepKinds front.old.items best.old.picks.items front.new.items best.new.picks.items }
-    ensures of_trial { IsTrialOf trial.now board.new }
-    ensures err { IfErr result (IsRefusal trial.now) }
-{
-    let length = best.picks.as_slice().len();
-    let Some(failure) = failure_of(alloc, trial, board, other.as_slice(), length)? else {
-        return Ok(false);
-    };
-    if failure.check != best.check {
-        return Ok(false);
-    }
-    // It is not the best, but it fails: what is cut from it next may be simpler.
-    if cost(failure.deciding()) > cost(best.deciding()) {
-        *front = other;
-        return Ok(true);
-    }
-    *best = failure;
-    *front = other;
-    Ok(true)
-}
-
-// Cuts steps from the end, by halves.
-#[tactic(auto, using(crate::proofs::KeptKinds::keep_same, crate::proofs::KeptKinds::keep_more))]
-fn cut_behind(
-    alloc: Global,
-    trial: &Trial<'_>,
-    board: &mut Board,
-    front: &mut Vec<Pick>,
-    best: &mut Failure,
-) -> Result<(), HuntFault>
-    requires fails { IsFailure trial.now best.old }
-    requires of_trial { IsTrialOf trial.now board.old }
-    ensures fails { IsFailure trial.now best.new }
-    ensures same { best.new.check ≡ best.old.check }
-    ensures simpler { cost_told best.new ≤ cost_told best.old }
-    ensures kinds { KeepKinds front.old.items best.old.picks.items front.new.items best.new.picks.items }
-    ensures of_trial { IsTrialOf trial.now board.new }
-    ensures err { IfErr result (IsRefusal trial.now) }
-{
-    let mut low = 0;
-    'tries: for _ in 0..usize::BITS {
-        let high = front.len();
-        if low >= high {
-            return Ok(());
-        }
-        let middle = low + (high - low) / 2;
-        let other = front_of(alloc, front.as_slice(), middle)?;
-        if !try_front(alloc, trial, board, front, other, best)? {
-            low = middle + 1;
-        }
-    }
-    Ok(())
-}
-
-// Leaves out events, one at a time, the last first.
-#[tactic(auto, using(crate::proofs::KeptKinds::keep_same, crate::proofs::KeptKinds::keep_more))]
-fn cut_events(
-    alloc: Global,
-    trial: &Trial<'_>,
-    board: &mut Board,
-    front: &mut Vec<Pick>,
-    best: &mut Failure,
-) -> Result<(), HuntFault>
-    requires fails { IsFailure trial.now best.old }
-    requires of_trial { IsTrialOf trial.now board.old }
-    ensures fails { IsFailure trial.now best.new }
-    ensures same { best.new.check ≡ best.old.check }
-    ensures simpler { cost_told best.new ≤ cost_told best.old }
-    ensures kinds { KeepKinds front.old.items best.old.picks.items front.new.items best.new.picks.items }
-    ensures of_trial { IsTrialOf trial.now board.new }
-    ensures err { IfErr result (IsRefusal trial.now) }
-{
-    let mut end = front.len();
-    'tries: for _ in 0..MOST_TRIES {
-        let Some(at) = last_event(front.as_slice(), end) else {
-            return Ok(());
+impl Front {
+    // Tries another front, and takes it where it fails.
+    #[tactic(auto, using(crate::proofs::Shortenings::trying))]
+    fn try_steps(
+        &mut self,
+        alloc: Global,
+        trial: &Trial<'_>,
+        other: Vec<Pick>,
+        best: &mut Failure,
+    ) -> Result<bool, HuntFault>
+        requires can { CanShorten trial.now self.old best.old }
+        requires kinds { KeepsKinds self.old.steps.items other.items }
+        ensures shorter { Shortens trial.now self.old best.old self.new best.new }
+        ensures err { IfErr result (IsRefusal trial.now) }
+    {
+        let length = best.picks.as_slice().len();
+        let Some(failure) = failure_of(alloc, trial, &mut self.board, other.as_slice(), length)?
+        else {
+            return Ok(false);
         };
-        let other = without_event(alloc, front.as_slice(), at)?;
-        let _fails = try_front(alloc, trial, board, front, other, best)?;
-        end = at;
-    }
-    Ok(())
-}
-
-// Leaves out bursts, one at a time.
-#[tactic(auto, using(crate::proofs::KeptKinds::keep_same, crate::proofs::KeptKinds::keep_more))]
-fn cut_bursts(
-    alloc: Global,
-    trial: &Trial<'_>,
-    board: &mut Board,
-    front: &mut Vec<Pick>,
-    best: &mut Failure,
-) -> Result<(), HuntFault>
-    requires fails { IsFailure trial.now best.old }
-    requires of_trial { IsTrialOf trial.now board.old }
-    ensures fails { IsFailure trial.now best.new }
-    ensures same { best.new.check ≡ best.old.check }
-    ensures simpler { cost_told best.new ≤ cost_told best.old }
-    ensures kinds { KeepKinds front.old.items best.old.picks.items front.new.items best.new.picks.items }
-    ensures of_trial { IsTrialOf trial.now board.new }
-    ensures err { IfErr result (IsRefusal trial.now) }
-{
-    let mut at = 0;
-    'tries: for _ in 0..MOST_TRIES {
-        if at >= front.len() {
-            return Ok(());
+        if failure.check != best.check {
+            return Ok(false);
         }
-        let end = burst_end(front.as_slice(), at);
-        let other = without(alloc, front.as_slice(), at, end)?;
-        if !try_front(alloc, trial, board, front, other, best)? {
-            at = end;
+        // It is not the best, but it fails: what is cut from it next may be simpler.
+        if cost(failure.deciding()) > cost(best.deciding()) {
+            self.steps = other;
+            return Ok(true);
         }
+        *best = failure;
+        self.steps = other;
+        Ok(true)
     }
-    Ok(())
-}
 
-// Leaves out steps: halves, quarters and so on, and single steps until none can be left out.
-#[tactic(auto, using(crate::proofs::KeptKinds::keep_same, crate::proofs::KeptKinds::keep_more))]
-fn cut_steps(
-    alloc: Global,
-    trial: &Trial<'_>,
-    board: &mut Board,
-    front: &mut Vec<Pick>,
-    best: &mut Failure,
-) -> Result<(), HuntFault>
-    requires fails { IsFailure trial.now best.old }
-    requires of_trial { IsTrialOf trial.now board.old }
-    ensures fails { IsFailure trial.now best.new }
-    ensures same { best.new.check ≡ best.old.check }
-    ensures simpler { cost_told best.new ≤ cost_told best.old }
-    ensures kinds { KeepKinds front.old.items best.old.picks.items front.new.items best.new.picks.items }
-    ensures of_trial { IsTrialOf trial.now board.new }
-    ensures err { IfErr result (IsRefusal trial.now) }
-{
-    let mut size = front.len() / 2;
-    let mut at = 0;
-    let mut was_cut = false;
-    'tries: for _ in 0..MOST_TRIES {
-        if at >= front.len() {
-            if size <= 1 && !was_cut {
+    // Cuts steps from the end, by halves.
+    #[tactic(auto, using(crate::proofs::Shortenings::shortenings))]
+    fn cut_behind(
+        &mut self,
+        alloc: Global,
+        trial: &Trial<'_>,
+        best: &mut Failure,
+    ) -> Result<(), HuntFault>
+        requires { CanShorten trial.now self.old best.old }
+        ensures shorter { Shortens trial.now self.old best.old self.new best.new }
+        ensures err { IfErr result (IsRefusal trial.now) }
+    {
+        let mut low = 0;
+        'tries: for _ in 0..usize::BITS {
+            let high = self.steps.len();
+            if low >= high {
                 return Ok(());
             }
-            size /= 2;
-            at = 0;
-            was_cut = false;
+            let middle = low + (high - low) / 2;
+            let other = front_of(alloc, self.steps.as_slice(), middle)?;
+            if !self.try_steps(alloc, trial, other, best)? {
+                low = middle + 1;
+            }
         }
-        let end = at.saturating_add(size.max(1));
-        let other = without(alloc, front.as_slice(), at, end)?;
-        if try_front(alloc, trial, board, front, other, best)? {
-            was_cut = true;
-        } else {
-            at = end;
-        }
+        Ok(())
     }
-    Ok(())
+
+    // Leaves out events, one at a time, the last first.
+    #[tactic(auto, using(crate::proofs::Shortenings::shortenings))]
+    fn cut_events(
+        &mut self,
+        alloc: Global,
+        trial: &Trial<'_>,
+        best: &mut Failure,
+    ) -> Result<(), HuntFault>
+        requires { CanShorten trial.now self.old best.old }
+        ensures shorter { Shortens trial.now self.old best.old self.new best.new }
+        ensures err { IfErr result (IsRefusal trial.now) }
+    {
+        let mut end = self.steps.len();
+        'tries: for _ in 0..MOST_TRIES {
+            let Some(at) = last_event(self.steps.as_slice(), end) else {
+                return Ok(());
+            };
+            let other = without_event(alloc, self.steps.as_slice(), at)?;
+            let _fails = self.try_steps(alloc, trial, other, best)?;
+            end = at;
+        }
+        Ok(())
+    }
+
+    // Leaves out bursts, one at a time.
+    #[tactic(auto, using(crate::proofs::Shortenings::shortenings))]
+    fn cut_bursts(
+        &mut self,
+        alloc: Global,
+        trial: &Trial<'_>,
+        best: &mut Failure,
+    ) -> Result<(), HuntFault>
+        requires { CanShorten trial.now self.old best.old }
+        ensures shorter { Shortens trial.now self.old best.old self.new best.new }
+        ensures err { IfErr result (IsRefusal trial.now) }
+    {
+        let mut at = 0;
+        'tries: for _ in 0..MOST_TRIES {
+            if at >= self.steps.len() {
+                return Ok(());
+            }
+            let end = burst_end(self.steps.as_slice(), at);
+            let other = without(alloc, self.steps.as_slice(), at, end)?;
+            if !self.try_steps(alloc, trial, other, best)? {
+                at = end;
+            }
+        }
+        Ok(())
+    }
+
+    // Leaves out steps: halves, quarters and so on, and single steps until none can be left out.
+    #[tactic(auto, using(crate::proofs::Shortenings::shortenings))]
+    fn cut_steps(
+        &mut self,
+        alloc: Global,
+        trial: &Trial<'_>,
+        best: &mut Failure,
+    ) -> Result<(), HuntFault>
+        requires { CanShorten trial.now self.old best.old }
+        ensures shorter { Shortens trial.now self.old best.old self.new best.new }
+        ensures err { IfErr result (IsRefusal trial.now) }
+    {
+        let mut size = self.steps.len() / 2;
+        let mut at = 0;
+        let mut was_cut = false;
+        'tries: for _ in 0..MOST_TRIES {
+            if at >= self.steps.len() {
+                if size <= 1 && !was_cut {
+                    return Ok(());
+                }
+                size /= 2;
+                at = 0;
+                was_cut = false;
+            }
+            let end = at.saturating_add(size.max(1));
+            let other = without(alloc, self.steps.as_slice(), at, end)?;
+            if self.try_steps(alloc, trial, other, best)? {
+                was_cut = true;
+            } else {
+                at = end;
+            }
+        }
+        Ok(())
+    }
 }
 
-// Moves the next burst of the core at an index behind its burst there.
-#[tactic(auto, using(crate::proofs::KeptKinds::keep_same))]
-fn join_at(
-    alloc: Global,
-    trial: &Trial<'_>,
-    board: &mut Board,
-    front: &mut Vec<Pick>,
-    at: usize,
-    best: &mut Failure,
-) -> Result<bool, HuntFault>
-    requires fails { IsFailure trial.now best.old }
-    requires of_trial { IsTrialOf trial.now board.old }
-    ensures fails { IsFailure trial.now best.new }
-    ensures same { best.new.check ≡ best.old.check }
-    ensures simpler { cost_told best.new ≤ cost_told best.old }
-    ensures kinds { KeepKinds front.old.items best.old.picks.items front.new.items best.new.picks.items }
-    ensures of_trial { IsTrialOf trial.now board.new }
-    ensures err { IfErr result (IsRefusal trial.now) }
-{
-    let Some(other) = joined(alloc, front.as_slice(), at)? else {
-        return Ok(false);
-    };
-    try_front(alloc, trial, board, front, other, best)
-}
-
-// Moves bursts of one core side by side.
-#[tactic(auto, using(crate::proofs::KeptKinds::keep_same, crate::proofs::KeptKinds::keep_more))]
-fn join_bursts(
-    alloc: Global,
-    trial: &Trial<'_>,
-    board: &mut Board,
-    front: &mut Vec<Pick>,
-    best: &mut Failure,
-) -> Result<(), HuntFault>
-    requires fails { IsFailure trial.now best.old }
-    requires of_trial { IsTrialOf trial.now board.old }
-    ensures fails { IsFailure trial.now best.new }
-    ensures same { best.new.check ≡ best.old.check }
-    ensures simpler { cost_told best.new ≤ cost_told best.old }
-    ensures kinds { KeepKinds front.old.items best.old.picks.items front.new.items best.new.picks.items }
-    ensures of_trial { IsTrialOf trial.now board.new }
-    ensures err { IfErr result (IsRefusal trial.now) }
-{
-    let mut at = 0;
-    'tries: for _ in 0..MOST_TRIES {
-        if !join_at(alloc, trial, board, front, at, best)? {
-            at = burst_end(front.as_slice(), at);
-        }
-        if at >= front.len() {
-            return Ok(());
-        }
+impl Front {
+    // Moves the next burst of the core at an index behind its burst there.
+    #[tactic(auto, using(crate::proofs::Shortenings::shortenings))]
+    fn join_at(
+        &mut self,
+        alloc: Global,
+        trial: &Trial<'_>,
+        at: usize,
+        best: &mut Failure,
+    ) -> Result<bool, HuntFault>
+        requires { CanShorten trial.now self.old best.old }
+        ensures shorter { Shortens trial.now self.old best.old self.new best.new }
+        ensures err { IfErr result (IsRefusal trial.now) }
+    {
+        let Some(other) = joined(alloc, self.steps.as_slice(), at)? else {
+            return Ok(false);
+        };
+        self.try_steps(alloc, trial, other, best)
     }
-    Ok(())
+
+    // Moves bursts of one core side by side.
+    #[tactic(auto, using(crate::proofs::Shortenings::shortenings))]
+    fn join_bursts(
+        &mut self,
+        alloc: Global,
+        trial: &Trial<'_>,
+        best: &mut Failure,
+    ) -> Result<(), HuntFault>
+        requires { CanShorten trial.now self.old best.old }
+        ensures shorter { Shortens trial.now self.old best.old self.new best.new }
+        ensures err { IfErr result (IsRefusal trial.now) }
+    {
+        let mut at = 0;
+        'tries: for _ in 0..MOST_TRIES {
+            if !self.join_at(alloc, trial, at, best)? {
+                at = burst_end(self.steps.as_slice(), at);
+            }
+            if at >= self.steps.len() {
+                return Ok(());
+            }
+        }
+        Ok(())
+    }
 }

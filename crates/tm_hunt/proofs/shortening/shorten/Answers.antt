@@ -4,6 +4,6 @@ use Rattle.tm_hunt.proofs.shortening.shorten.Goals as goal
 
 pub returns-clause-kinds : goal.returns-clause-kinds
 returns-clause-kinds c =
-    keeps_best c.in_ok-front.front.items c.args.best.now.picks.items c.shorten_front.new.front.items
-    c.shorten_front.new.best.picks.items (c.in_ok-front.ensures.items ∙ c.as_slice.ensures.value)
-    c.shorten_front.ensures.kinds
+    keeps_best c.in_ok-steps.steps.items c.args.best.now.picks.items c.shorten.new.self.steps.items
+    c.shorten.new.best.picks.items (c.in_ok-steps.ensures.items ∙ c.as_slice.ensures.value)
+    c.shorten.ensures.shorter.kinds

@@ -1,0 +1,8 @@
+use Rattle.tm_hunt.proofs.Shortenings.{shortens_more}
+use Rattle.tm_hunt.proofs.shortening.Front.cut_bursts.Goals as goal
+
+pub returns-in_err-try_steps-clause-shorter : goal.returns-in_err-try_steps-clause-shorter
+returns-in_err-try_steps-clause-shorter c = shortens_more c.tries.invariant c.try_steps.ensures.shorter
+
+pub tries-preserved : goal.tries-preserved
+tries-preserved c = shortens_more c.tries.invariant c.try_steps.ensures.shorter
