@@ -35,14 +35,14 @@ pub fn bytes_of(
     let Ok(count) = number_of(Some(count.trim()), "--check") else {
         return Ok(None);
     };
-    match decoded(alloc, digits, count)? {
+    match decode(alloc, digits, count)? {
         Some(bytes) => Ok(Some((address, bytes))),
         None => Ok(None),
     }
 }
 
 // So many bytes in hex digits, around which spaces may stand.
-fn decoded(alloc: Global, digits: &str, count: u32) -> Result<Option<Vec<u8>>, AllocError>
+fn decode(alloc: Global, digits: &str, count: u32) -> Result<Option<Vec<u8>>, AllocError>
     ensures { IfOk result (λ bytes. MatchOption bytes (AreNotMany count (trim digits.now))
         (λ found. (length found.items ≡ count) × (decode_of (trim digits.now) ≡ Ok found.items))) }
 {

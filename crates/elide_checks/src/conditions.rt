@@ -77,7 +77,7 @@ pub fn clause_of(
         (IsClause scope.now.file.now (is_among scope.now.constants.now.names.items) text.now)) }
 {
     // First, since `==` has the `=` of bytes.
-    if let Some((before, comparison, behind)) = compared(text) {
+    if let Some((before, comparison, behind)) = split_comparison(text) {
         return Ok(comparison_of(before, comparison, behind, scope));
     }
     match bytes_of(alloc, text, scope.file)? {
@@ -87,7 +87,7 @@ pub fn clause_of(
 }
 
 /// The two sides of a comparison.
-pub fn compared(text: &str) -> Option<(&str, Comparison, &str)>
+pub fn split_comparison(text: &str) -> Option<(&str, Comparison, &str)>
     ensures { MatchOption result (HasNoOperator text.now)
         (λ parts. IsCompared text.now parts.0.now parts.1 parts.2.now) }
 {

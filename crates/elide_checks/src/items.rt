@@ -47,7 +47,7 @@ pub fn item_of(word: &str, side: Side, scope: &Scope<'_, '_, '_>) -> Option<Quan
     ensures { MatchOption result (IsNoItem scope.now.file.now word.now)
         (IsItem scope.now.file.now (is_among scope.now.constants.now.names.items) side word.now) }
 {
-    match parted(word) {
+    match split_item(word) {
         Some((name, whose)) => {
             let quantity = named_item(name, whose)?;
             Some(quantity)
@@ -60,7 +60,7 @@ pub fn item_of(word: &str, side: Side, scope: &Scope<'_, '_, '_>) -> Option<Quan
 }
 
 // What stands before the first `@` of a word, and behind it.
-fn parted(word: &str) -> Option<(&str, &str)>
+fn split_item(word: &str) -> Option<(&str, &str)>
     ensures { MatchOption result (at_place word.now ≡ length word.now)
         (λ parts. IsParted word.now parts.0.now parts.1.now) }
 {

@@ -4,7 +4,7 @@
 //! nothing: all of it, where it has no operator, and else its left side, or its right one where the left is an item. It
 //! refuses nothing but for want of memory; the line that a person sees is written by `elide_advice`.
 
-use crate::conditions::{clause_of, compared};
+use crate::conditions::{clause_of, split_comparison};
 use crate::constants::Constants;
 use crate::cut::cut;
 use crate::items::{Scope, Side, item_of};
@@ -95,7 +95,7 @@ fn misread_part<'a>(
     part: &'a str,
     scope: &Scope<'_, '_, '_>,
 ) -> Misread<'a> {
-    let Some((left, comparison, right)) = compared(part) else {
+    let Some((left, comparison, right)) = split_comparison(part) else {
         return misread_at(text, before, part, Wanted::Clause);
     };
     if item_of(left.trim(), Side::Left, scope).is_none() {

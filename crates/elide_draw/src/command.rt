@@ -5,7 +5,7 @@
 //! record is written, and behind it the picture: nothing is printed before the run has ended. How a picture looks is
 //! `tm_timeline`'s.
 
-ghost use Rattle.std.specs.Prelude.{◌≡◌, ℕ, IfOk, List, OnOk, Option};
+ghost use Rattle.std.specs.Prelude.{Option, ◌≡◌, ℕ, IfOk, List, OnOk};
 ghost use Rattle.elide_program.specs.ProgramFile.{IsFile, IsRead};
 ghost use Rattle.elide_program.specs.declared.file.ProgramFile.{ProgramFile};
 ghost use Rattle.elide_setup.specs.Made.{HasRun, HasRunCourse, HasRunPlan};
@@ -14,7 +14,7 @@ ghost use Rattle.elide_setup.specs.Schedules.{schedule_made};
 ghost use Rattle.elide_setup.specs.Setup.{IsSetup};
 ghost use Rattle.elide_program.specs.declared.settings.Settings.{Settings};
 
-use crate::course::{Tally, counted, watched};
+use crate::course::{Tally, count_steps, watch_course};
 use crate::extent::{Extent, rows_of};
 use crate::line_names::LineNames;
 use crate::scene::ProgramScene;
@@ -27,14 +27,25 @@ use std::alloc::Global;
 use text_out::Out;
 use tm_timeline::{Label, Rows, Timeline};
 
-// What is asked for beside the program and its schedule.
+// What is asked for beside the schedule.
 #[derive(Drop)]
 struct Asked<'a> {
+    // What the options say of the machine.
+    settings: Settings<'a>,
     file: &'a str,
     // Where the schedule that came about is written.
     path: Option<&'a str>,
     extent: Extent,
     rows: Rows,
+}
+
+// A program that is drawn: what each step of the way reads.
+#[derive(Clone, Copy)]
+struct Drawing<'a> {
+    alloc: Global,
+    setup: &'a Setup,
+    places: &'a Places,
+    asked: &'a Asked<'a>,
 }
 
 /// Runs a schedule of core steps, writes the schedule that came about where there is a path, and then a timeline of the
@@ -52,17 +63,8 @@ pub fn draw<P: Paths, O: Out, G: Progress>(
     let path = record_path(options.record, options.machine.file, paths)?;
     let settings = Settings::read(&options.machine)?;
     let plan = Plan::read(alloc, &options.schedule)?;
-    match Asked::read(options, path, settings.cores) {
-        Ok(asked) => draw_plan(
-            alloc,
-            &settings,
-            plan,
-            &asked,
-            options.machine.shows.as_slice(),
-            paths,
-            out,
-            progress,
-        ),
+    match Asked::read(options, settings, path) {
+        Ok(asked) => draw_plan(alloc, plan, &asked, paths, out, progress),
         Err(refusal) => Err(refusal),
     }
 }
@@ -71,15 +73,17 @@ impl<'a> Asked<'a> {
     // Reads `--from`, `--to` and `--core`.
     fn read(
         options: &DrawOptions<'a>,
+        settings: Settings<'a>,
         path: Option<&'a str>,
-        cores: u32,
     ) -> Result<Asked<'a>, Refusal>
+        ensures settings { IfOk result (λ asked. asked.settings ≡ settings.entry) }
         ensures file { IfOk result (λ asked. asked.file ≡ options.now.machine.file) }
         ensures path { IfOk result (λ asked. asked.path ≡ path.entry) }
     {
         let extent = Extent::read(options.from, options.to)?;
-        let rows = rows_of(options.cores, cores)?;
+        let rows = rows_of(options.cores, settings.cores)?;
         Ok(Asked {
+            settings,
             file: options.machine.file,
             path,
             extent,
@@ -92,10 +96,8 @@ impl<'a> Asked<'a> {
 // is dropped by a call, so that each is proved soon.
 fn draw_plan<P: Paths, O: Out, G: Progress>(
     alloc: Global,
-    settings: &Settings<'_>,
     plan: Plan<'_>,
     asked: &Asked<'_>,
-    sums: &[&str],
     paths: &mut P,
     out: &mut O,
     progress: &mut G,
@@ -103,110 +105,96 @@ fn draw_plan<P: Paths, O: Out, G: Progress>(
     ensures { OnOk result ((file : ProgramFile) × (given : List ℕ → Option (List ℕ))
         × IsRead (P.content paths.old asked.now.file.now) file
         × ((other : List ℕ) → given other ≡ P.content paths.old other)
-        × HasRunPlan given (P.content paths.new) file settings.now plan.entry asked.now.path) }
+        × HasRunPlan given (P.content paths.new) file asked.now.settings plan.entry asked.now.path) }
 {
-    let text = read_file(asked.file, paths)?;
-    draw_text(
+    let (setup, places) = load(alloc, asked, paths)?;
+    let drawing = Drawing {
         alloc,
-        settings,
-        text.as_slice(),
-        plan,
+        setup: &setup,
+        places: &places,
         asked,
-        sums,
-        paths,
-        out,
-        progress,
-    )
-}
-
-fn draw_text<P: Paths, O: Out, G: Progress>(
-    alloc: Global,
-    settings: &Settings<'_>,
-    text: &[u8],
-    plan: Plan<'_>,
-    asked: &Asked<'_>,
-    sums: &[&str],
-    paths: &mut P,
-    out: &mut O,
-    progress: &mut G,
-) -> Result<(), Refusal>
-    ensures { OnOk result ((file : ProgramFile) × IsFile text.now file
-        × HasRunPlan (P.content paths.old) (P.content paths.new) file settings.now plan.entry asked.now.path) }
-{
-    let (setup, places) = setup_of(alloc, settings, text)?;
-    let drawn = draw_placed(
-        alloc, &setup, &places, plan, asked, sums, paths, out, progress,
-    );
+    };
+    let drawn = draw_loaded(drawing, plan, paths, out, progress);
     drop(places);
     drop(setup);
     drawn
 }
 
-fn draw_placed<P: Paths, O: Out, G: Progress>(
+// Reads FILE: its program, and its places.
+fn load<P: Paths>(
     alloc: Global,
-    setup: &Setup,
-    places: &Places,
-    plan: Plan<'_>,
     asked: &Asked<'_>,
-    sums: &[&str],
+    paths: &mut P,
+) -> Result<(Setup, Places), Refusal>
+    ensures loaded { IfOk result (λ made. (file : ProgramFile)
+        × IsRead (P.content paths.old asked.now.file.now) file × IsSetup file asked.now.settings made.0) }
+    ensures kept { (other : List ℕ) → P.content paths.new other ≡ P.content paths.old other }
+{
+    let text = read_file(asked.file, paths)?;
+    setup_of(alloc, &asked.settings, text.as_slice())
+}
+
+// Reads the schedule of a program that is loaded, and draws its run.
+fn draw_loaded<P: Paths, O: Out, G: Progress>(
+    drawing: Drawing<'_>,
+    plan: Plan<'_>,
     paths: &mut P,
     out: &mut O,
     progress: &mut G,
 ) -> Result<(), Refusal>
-    ensures { (file : ProgramFile) (settings : Settings) → IsSetup file settings setup.now →
-        OnOk result (HasRunPlan (P.content paths.old) (P.content paths.new) file settings plan.entry asked.now.path) }
+    ensures { (file : ProgramFile) (settings : Settings) → IsSetup file settings drawing.entry.setup.now →
+        OnOk result (HasRunPlan (P.content paths.old) (P.content paths.new) file settings plan.entry
+        drawing.entry.asked.now.path) }
 {
-    let course = plan.course(alloc, paths)?;
-    let drawn = draw_course(
-        alloc, setup, places, &course, asked, sums, paths, out, progress,
-    );
+    let course = plan.course(drawing.alloc, paths)?;
+    let drawn = draw_course(drawing, &course, paths, out, progress);
     drop(course);
     drawn
 }
 
 fn draw_course<P: Paths, O: Out, G: Progress>(
-    alloc: Global,
-    setup: &Setup,
-    places: &Places,
+    drawing: Drawing<'_>,
     course: &Course,
-    asked: &Asked<'_>,
-    sums: &[&str],
     paths: &mut P,
     out: &mut O,
     progress: &mut G,
 ) -> Result<(), Refusal>
-    ensures { OnOk result (HasRunCourse (P.content paths.new) setup.now course.now asked.now.path) }
+    ensures { OnOk result (HasRunCourse (P.content paths.new) drawing.entry.setup.now course.now
+        drawing.entry.asked.now.path) }
 {
+    let alloc = drawing.alloc;
+    let setup = drawing.setup;
+    let asked = drawing.asked;
     // First, as this alone says how many steps there are to choose from.
-    let counted = counted(alloc, setup, course, asked.path.is_some(), progress)?;
-    let window = asked.extent.window(counted.total)?;
+    let tally = count_steps(alloc, setup, course, asked.path.is_some(), progress)?;
+    let window = asked.extent.window(tally.total)?;
     let scene = ProgramScene {
         alloc,
         program: &setup.program,
-        labels: places.labels(),
+        labels: drawing.places.labels(),
         addresses: setup.parts.values.as_slice(),
+        sums: asked.settings.shows,
     };
-    let timeline = watched(alloc, setup, course, window, scene, sums, progress)?;
-    let drawn = record_drawn(course, &counted, &timeline, places, asked, paths, out);
+    let timeline = watch_course(alloc, setup, course, window, scene, progress)?;
+    let drawn = record_drawn(drawing, course, &tally, &timeline, paths, out);
     drop(timeline);
     drawn
 }
 
 // Writes the schedule that came about, and then a timeline.
 fn record_drawn<P: Paths, O: Out>(
+    drawing: Drawing<'_>,
     course: &Course,
-    counted: &Tally,
+    tally: &Tally,
     timeline: &Timeline,
-    places: &Places,
-    asked: &Asked<'_>,
     paths: &mut P,
     out: &mut O,
 ) -> Result<(), Refusal>
-    ensures { OnOk result (IsRecorded (P.content paths.new) asked.now.path
-        (schedule_made course.now counted.now.made.items)) }
+    ensures { OnOk result (IsRecorded (P.content paths.new) drawing.entry.asked.now.path
+        (schedule_made course.now tally.now.made.items)) }
 {
-    course.record(asked.path, counted.made.as_slice(), paths)?;
-    write_timeline(timeline, places, asked, out)
+    course.record(drawing.asked.path, tally.made.as_slice(), paths)?;
+    write_timeline(timeline, drawing.places, drawing.asked, out)
 }
 
 // Writes a timeline.

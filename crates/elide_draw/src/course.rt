@@ -1,7 +1,7 @@
 //! A schedule, run twice: once to count its steps, where it is drawn step by step, and once to watch them.
 //!
-//! [`counted`] comes first, since the part that is drawn depends on how many steps there are; a list is not run for
-//! that. [`watched`] makes the steps again, and tells a timeline of each. What is to be shown of memory is tested
+//! [`count_steps`] comes first, since the part that is drawn depends on how many steps there are; a list is not run for
+//! that. [`watch_course`] makes the steps again, and tells a timeline of each. What is to be shown of memory is tested
 //! before the second run. The picks of a draw are kept by the first, for the record.
 
 ghost use Rattle.std.specs.Prelude.{◌≡◌, IfOk, List};
@@ -37,7 +37,7 @@ pub struct Tally {
 
 /// How many steps a schedule makes: those of the list, or those that are drawn until all cores have stopped or the
 /// limit is reached. `keeps` asks for the picks that are drawn.
-pub fn counted<G: Progress>(
+pub fn count_steps<G: Progress>(
     alloc: Global,
     setup: &Setup,
     course: &Course,
@@ -51,12 +51,12 @@ pub fn counted<G: Progress>(
             total: u32::try_from(steps.len()).unwrap_or(u32::MAX),
             made: Vec::new(alloc),
         }),
-        Course::Drawn(_) => counted_drawn(alloc, setup, course, keeps, progress),
+        Course::Drawn(_) => count_drawn(alloc, setup, course, keeps, progress),
     }
 }
 
-// What [`counted`] answers of a course that is drawn.
-fn counted_drawn<G: Progress>(
+// What [`count_steps`] answers of a course that is drawn.
+fn count_drawn<G: Progress>(
     alloc: Global,
     setup: &Setup,
     course: &Course,
@@ -98,20 +98,19 @@ impl StepMaker for Counter {
 
 /// Runs a schedule, and tells a timeline of this window of it. A picker draws the picks that it drew when the steps
 /// were counted.
-pub fn watched<S: Scene + Drop, G: Progress>(
+pub fn watch_course<S: Scene + Drop, G: Progress>(
     alloc: Global,
     setup: &Setup,
     course: &Course,
     window: Window,
     scene: S,
-    sums: &[&str],
     progress: &mut G,
 ) -> Result<Timeline, Refusal>
     ensures { IfOk result (λ timeline. (made : List (Pick × Outcome)) × IsWatched setup.now course.now made
         × IsToldOf window made timeline) }
 {
     let machine = new_machine(alloc, setup)?;
-    match opened(alloc, setup, &machine, window, &scene, sums) {
+    match open_timeline(alloc, setup, &machine, window, &scene) {
         Ok(timeline) => {
             let watcher = Watcher {
                 machine,
@@ -119,7 +118,7 @@ pub fn watched<S: Scene + Drop, G: Progress>(
                 scene,
                 rounds: Rounds::new(),
             };
-            watched_by(alloc, course, watcher, progress)
+            run_watcher(alloc, course, watcher, progress)
         }
         Err(refusal) => {
             drop(machine);
@@ -129,20 +128,19 @@ pub fn watched<S: Scene + Drop, G: Progress>(
     }
 }
 
-// The timeline of a machine before its first step, with the variables of these sums, which memory has to have.
-fn opened<S: Scene>(
+// The timeline of a machine before its first step, with the scene's variables, which memory has to have.
+fn open_timeline<S: Scene>(
     alloc: Global,
     setup: &Setup,
     machine: &Machine,
     window: Window,
     scene: &S,
-    sums: &[&str],
 ) -> Result<Timeline, Refusal>
     ensures { IfOk result (λ begun. (blank : Timeline) × IsBlank window blank × SameSteps blank begun) }
 {
     shown_memory(machine.view(), &setup.parts, &[])?;
     let mut timeline = Timeline::new(alloc, machine.cores(), window)?;
-    match tell_opening(alloc, machine, scene, sums, &mut timeline) {
+    match tell_opening(alloc, machine, scene, &mut timeline) {
         Ok(()) => Ok(timeline),
         Err(refused) => Err(Refusal::from(refused)),
     }
@@ -153,18 +151,18 @@ fn tell_opening<S: Scene>(
     alloc: Global,
     machine: &Machine,
     scene: &S,
-    sums: &[&str],
     timeline: &mut Timeline,
 ) -> Result<(), AllocError>
     ensures { SameSteps timeline.old timeline.new }
 {
-    for sum in sums {
+    for sum in scene.sums() {
         timeline.add_variable(alloc, Label::of(*sum))?;
     }
     tell_variables(machine, scene.variables(), timeline)
 }
 
-fn watched_by<S: Scene + Drop, G: Progress>(
+// The timeline of a watcher that makes the steps of a schedule.
+fn run_watcher<S: Scene + Drop, G: Progress>(
     alloc: Global,
     course: &Course,
     mut watcher: Watcher<S>,
@@ -174,7 +172,7 @@ fn watched_by<S: Scene + Drop, G: Progress>(
         × (after : ShownMachine) × Leads AreMachineSteps watcher.machine made after
         × (last : Timeline) × AreTold watcher.timeline made last × (done.next ≡ last.next) × Grows last done) }
 {
-    match watch(alloc, course, &mut watcher, progress) {
+    match make_steps(alloc, course, &mut watcher, progress) {
         Ok(()) => Ok(watcher.into_timeline()),
         Err(refusal) => {
             drop(watcher);
@@ -184,7 +182,7 @@ fn watched_by<S: Scene + Drop, G: Progress>(
 }
 
 // Makes the steps of a schedule, and tells a timeline of them.
-fn watch<S: Scene, G: Progress>(
+fn make_steps<S: Scene, G: Progress>(
     alloc: Global,
     course: &Course,
     watcher: &mut Watcher<S>,

@@ -10,9 +10,9 @@ use ia_insn::Op;
 use ia_regs::Regs;
 use ia_word::BareOp;
 use tm_core::Machine;
-use tm_model::Outcome;
+use tm_model::{Outcome, Pick};
 use tm_timeline::Timeline;
-use tm_trace::Deed;
+use tm_trace::{Before, Deed};
 
 /// The most cores of a machine.
 const CORES: usize = 64;
@@ -22,6 +22,17 @@ const CORES: usize = 64;
 struct Round {
     regs: Regs,
     step: u32,
+}
+
+/// A step that was made, with what was known of it before.
+#[derive(Clone, Copy)]
+pub struct MadeStep {
+    /// Of which core, and under which event.
+    pub pick: Pick,
+    /// What it came to.
+    pub outcome: Outcome,
+    /// What was known before it, where it is described.
+    pub before: Option<Before>,
 }
 
 /// The round of each core, while it stores nothing.
@@ -42,16 +53,10 @@ impl Rounds {
     /// and in each round of a loop outside of them that ended with the registers which it began with, and stored
     /// nothing.
     #[tactic(auto, using(crate::proofs::Telling::same_self, crate::proofs::Telling::same_more))]
-    pub fn tell(
-        &mut self,
-        machine: &Machine,
-        core: u8,
-        outcome: &Outcome,
-        deed: &Deed,
-        timeline: &mut Timeline,
-    )
+    pub fn tell(&mut self, machine: &Machine, step: &MadeStep, deed: &Deed, timeline: &mut Timeline)
         ensures { SameSteps timeline.old timeline.new }
     {
+        let core = step.pick.core;
         let index = usize::from(core);
         let Ok(regs) = machine.regs(core) else {
             return;
@@ -59,7 +64,7 @@ impl Rounds {
         if index >= CORES {
             return;
         }
-        if *outcome != Outcome::Plain || deed.stored.is_some() {
+        if step.outcome != Outcome::Plain || deed.stored.is_some() {
             self.list[index] = None;
             return;
         }

@@ -1,8 +1,8 @@
 //! What a picture tells of a program: its instructions, and its variables.
 //!
 //! [`Scene::before`] is asked before a step and [`Scene::text`] behind it, both where steps are drawn one by one alone.
-//! The texts are those of a trace, cut to a label's room. Variables are addresses here: what memory holds there is read
-//! in `watch`, and they are named in `course`.
+//! The texts are those of a trace, cut to a label's room. Variables are addresses and names here: what memory holds
+//! there is read in `watch`.
 
 use debug_command::write_place;
 use ia_image::Program;
@@ -25,6 +25,9 @@ pub trait Scene {
 
     /// The addresses of the variables.
     fn variables(&self) -> &[u32];
+
+    /// What the variables are called, in the same order.
+    fn sums(&self) -> &[&str];
 }
 
 /// The scene of a program.
@@ -38,6 +41,8 @@ pub struct ProgramScene<'a> {
     pub labels: &'a [Symbol],
     /// The addresses of the variables that are drawn.
     pub addresses: &'a [u32],
+    /// Their names.
+    pub sums: &'a [&'a str],
 }
 
 impl Scene for ProgramScene<'_> {
@@ -59,6 +64,10 @@ impl Scene for ProgramScene<'_> {
 
     fn variables(&self) -> &[u32] {
         self.addresses
+    }
+
+    fn sums(&self) -> &[&str] {
+        self.sums
     }
 }
 

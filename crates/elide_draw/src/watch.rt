@@ -9,7 +9,7 @@ ghost use Rattle.elide_draw.specs.Told.{AreTold};
 ghost use Rattle.elide_setup.specs.Runs.{AreMachineSteps, IsMachineStep};
 ghost use Rattle.tm_timeline.specs.Told.{SameSteps};
 
-use crate::rounds::Rounds;
+use crate::rounds::{MadeStep, Rounds};
 use crate::scene::Scene;
 use elide_setup::{Refusal, StepMaker};
 use std::alloc::AllocError;
@@ -17,7 +17,7 @@ use tm_core::Machine;
 use tm_model::{CoreState, Outcome, Pick};
 use tm_sets::Kind;
 use tm_timeline::{LineUse, Timeline};
-use tm_trace::{Before, Deed};
+use tm_trace::Deed;
 
 // How the next step uses the line on which it hits a core, for each core.
 type Uses = [Option<LineUse>; 64];
@@ -85,7 +85,12 @@ fn watch_step<S: Scene>(
     let outcome = machine.make_step(pick)?;
     // Before the step is told: the timeline still has the transactions that were open before it.
     tell_hits(machine, core, &uses, timeline)?;
-    tell_step(machine, pick, outcome, before, timeline, scene, rounds)?;
+    let step = MadeStep {
+        pick,
+        outcome,
+        before,
+    };
+    tell_step(machine, &step, timeline, scene, rounds)?;
     tell_variables(machine, scene.variables(), timeline)?;
     Ok(outcome)
 }
@@ -93,44 +98,41 @@ fn watch_step<S: Scene>(
 // Tells what a step was, and what there is to tell of one that is drawn.
 fn tell_step<S: Scene>(
     machine: &Machine,
-    pick: Pick,
-    outcome: Outcome,
-    before: Option<Before>,
+    step: &MadeStep,
     timeline: &mut Timeline,
     scene: &S,
     rounds: &mut Rounds,
 ) -> Result<(), AllocError>
-    ensures { OnOk result (AreTold timeline.old ((pick, outcome) ∷ []) timeline.new) }
+    ensures { OnOk result (AreTold timeline.old ((step.now.pick, step.now.outcome) ∷ []) timeline.new) }
 {
-    timeline.told(pick.core, outcome)?;
-    tell_deed(machine, pick.core, outcome, before, timeline, scene, rounds)
+    timeline.note(step.pick.core, step.outcome)?;
+    tell_deed(machine, step, timeline, scene, rounds)
 }
 
 // Tells of a step that is drawn what it did and whether its core waited.
 #[tactic(auto, using(crate::proofs::Telling::same_self, crate::proofs::Telling::same_more))]
 fn tell_deed<S: Scene>(
     machine: &Machine,
-    core: u8,
-    outcome: Outcome,
-    before: Option<Before>,
+    step: &MadeStep,
     timeline: &mut Timeline,
     scene: &S,
     rounds: &mut Rounds,
 ) -> Result<(), AllocError>
     ensures { SameSteps timeline.old timeline.new }
 {
-    let Some(deed) = deed_of(machine, core, &outcome, before) else {
+    let Some(deed) = deed_of(machine, step) else {
         return Ok(());
     };
     timeline.describe(scene.text(&deed)?)?;
-    rounds.tell(machine, core, &outcome, &deed, timeline);
+    rounds.tell(machine, step, &deed, timeline);
     Ok(())
 }
 
 // What a step did.
-fn deed_of(machine: &Machine, core: u8, outcome: &Outcome, before: Option<Before>) -> Option<Deed> {
+fn deed_of(machine: &Machine, step: &MadeStep) -> Option<Deed> {
+    let core = step.pick.core;
     if core < machine.cores() {
-        Some(before?.deed(machine, core, outcome))
+        Some(step.before?.deed(machine, core, &step.outcome))
     } else {
         None
     }

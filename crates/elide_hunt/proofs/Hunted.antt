@@ -6,7 +6,12 @@ use Rattle.std.specs.Prelude.{IfOk, IfSome, Result}
 use Rattle.elide_args.specs.declared.hunt_options.HuntOptions.{HuntOptions}
 use Rattle.elide_checks.specs.Checks.{AreChecks}
 use Rattle.elide_checks.specs.declared.orders.Orders.{Orders}
+use Rattle.elide_program.specs.Files.{Gives, most_bytes}
+use Rattle.elide_program.specs.ProgramFile.{IsFile}
+use Rattle.elide_program.specs.Settings.{AreSettings}
 use Rattle.elide_program.specs.declared.file.ProgramFile.{ProgramFile}
+use Rattle.elide_program.specs.declared.settings.Settings.{Settings}
+use Rattle.elide_setup.specs.Setup.{IsSetup}
 use Rattle.elide_setup.specs.declared.machine.Setup.{Setup}
 use Rattle.tm_pick.specs.declared.method.Plan.{Plan}
 use Rattle.tm_hunt.specs.Attempts.{IsFailure, IsSearch}
@@ -19,7 +24,7 @@ use Rattle.tm_hunt.specs.declared.failure.Failure.{Failure}
 use Rattle.tm_hunt.specs.declared.searching.Found.{Found}
 use Rattle.tm_hunt.specs.declared.searching.Search.{Search}
 use Rattle.tm_hunt.specs.declared.trial.Trial.{Trial}
-use Rattle.elide_hunt.specs.Printed.{AreShortened, IsHunted, IsPlanOf, IsTrialOf}
+use Rattle.elide_hunt.specs.Printed.{AreOrders, AreShortened, IsHunted, IsPlanOf, IsSearched as Searched, IsTrialOf}
 use Rattle.elide_hunt.specs.Lines.{counts_of}
 use Rattle.elide_hunt.specs.declared.report.Beside.{Beside}
 
@@ -80,4 +85,29 @@ shortened_hunt trial orders beside search found after is searched counted fails 
           round = round;
         },
       );
+}
+
+-- the search of a text that FILE was read as, by settings and orders that the options say
+abbrev pub searched_by : (content : List ℕ → Option (List ℕ)) (options : HuntOptions) (settings : Settings)
+    (orders : Orders) (text view : List ℕ) (search : Search) (beside : Beside)
+    → Gives (content options.machine.file.now) most_bytes text → view ≡ text → AreSettings options.machine settings
+    → AreOrders options orders
+    → (file : ProgramFile) × (setup : Setup) × (trial : Trial) × IsFile view file × IsSetup file settings setup
+    × IsTrialOf view file options setup orders trial × IsHunted trial orders beside search
+    → Searched content options search
+searched_by content options settings orders text view search beside given same said ordered made = record {
+  setup = made.1;
+  asked = record {
+    file = made.0;
+    read = record { text = text; given = given; read = subst (λ (text : List ℕ). IsFile text made.0) same made.3 };
+    settings = settings;
+    said = said;
+    made = made.4;
+  };
+  orders = orders;
+  ordered = ordered;
+  trial = made.2;
+  made = subst (λ (text : List ℕ). IsTrialOf text made.0 options made.1 orders made.2) same made.5;
+  beside = beside;
+  hunted = made.6;
 }

@@ -94,10 +94,9 @@ pub record IsTrialOf (text : List ℕ) (file : ProgramFile) (options : HuntOptio
   pub most : trial.most ≡ orders.most
   pub checks : AreChecks text file options trial.checks.now
 
--- that of a search over the runs of the options, of a machine of the options and of what FILE's content is read as;
--- where a run fails, what is recorded are the steps that decide
-pub record IsPrinted (content left : List ℕ → Option (List ℕ)) (options : HuntOptions) (answer : Answer)
-    (before after : Option (List ℕ)) : Type 0 where
+-- the search of the machine of the options and of what FILE's content is read as, over the runs of the options, came
+-- to this
+pub record IsSearched (content : List ℕ → Option (List ℕ)) (options : HuntOptions) (search : Search) : Type 0 where
   pub setup : Setup
   pub asked : IsAsked (content options.machine.file.now) options.machine setup
   pub orders : Orders
@@ -105,7 +104,12 @@ pub record IsPrinted (content left : List ℕ → Option (List ℕ)) (options : 
   pub trial : Trial
   pub made : IsTrialOf asked.read.text asked.file options setup orders trial
   pub beside : Beside
-  pub search : Search
   pub hunted : IsHunted trial orders beside search
-  pub told : IsTold options beside search answer before after
+
+-- what it came to was printed, and where a run failed the steps that decide are recorded
+pub record IsPrinted (content left : List ℕ → Option (List ℕ)) (options : HuntOptions) (answer : Answer)
+    (before after : Option (List ℕ)) : Type 0 where
+  pub search : Search
+  pub searched : IsSearched content options search
+  pub told : IsTold options searched.beside search answer before after
   pub recorded : IfSome search.found (λ found. IsRecorded left options.record (schedule_text (deciding found.failure)))

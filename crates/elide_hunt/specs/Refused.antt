@@ -24,8 +24,7 @@ use Rattle.tm_hunt.specs.declared.attempt.HuntFault.TheVariants as hunt
 use Rattle.tm_hunt.specs.declared.searching.Found.{Found}
 use Rattle.tm_hunt.specs.declared.searching.Search.{Search}
 use Rattle.tm_hunt.specs.declared.trial.Trial.{Trial}
-use Rattle.elide_hunt.specs.Printed.{AreOrders, IsHunted, IsTrialOf}
-use Rattle.elide_hunt.specs.declared.report.Beside.{Beside}
+use Rattle.elide_hunt.specs.Printed.{AreOrders, IsSearched, IsTrialOf}
 
 -- ---- the search
 
@@ -49,17 +48,6 @@ pub data IsNoSearch (text : List ℕ) (file : ProgramFile) (options : HuntOption
       → IsNoSearch text file options setup orders why
 
 -- ---- what it came to
-
--- that of the options came to this
-pub record IsSearched (content : List ℕ → Option (List ℕ)) (options : HuntOptions) (search : Search) : Type 0 where
-  pub setup : Setup
-  pub asked : IsAsked (content options.machine.file.now) options.machine setup
-  pub orders : Orders
-  pub ordered : AreOrders options orders
-  pub trial : Trial
-  pub made : IsTrialOf asked.read.text asked.file options setup orders trial
-  pub beside : Beside
-  pub hunted : IsHunted trial orders beside search
 
 -- a run failed whose page is asked for, and what decides of it is not written as one, of the program whose text FILE
 -- has

@@ -63,7 +63,7 @@ pub struct Block<'a> {
 
 impl Block<'_> {
     /// Makes the runs.
-    pub fn made<R: Threads + Sync + AllocGlobal>(&self, rt: &R) -> Result<Share, Refusal>
+    pub fn make_runs<R: Threads + Sync + AllocGlobal>(&self, rt: &R) -> Result<Share, Refusal>
         requires some { 0 < self.now.jobs }
         requires ordered { self.now.first ≤ self.now.end }
         requires short { self.now.end < 2 ^ 32 }
@@ -78,7 +78,7 @@ impl Block<'_> {
             &|job| self.share(alloc, job),
         );
         match shares {
-            Ok(shares) => self.joined(shares.as_slice()),
+            Ok(shares) => self.join(shares.as_slice()),
             Err(_) => Err(Refusal::Fault(Fault::NoWorkers)),
         }
     }
@@ -114,7 +114,7 @@ impl Block<'_> {
     }
 
     // The shares as one, up to the first run that failed.
-    fn joined(&self, shares: &[Result<Share, HuntFault>]) -> Result<Share, Refusal>
+    fn join(&self, shares: &[Result<Share, HuntFault>]) -> Result<Share, Refusal>
         requires some { 0 < self.now.jobs }
         requires ordered { self.now.first ≤ self.now.end }
         requires short { self.now.end < 2 ^ 32 }

@@ -36,7 +36,7 @@ ghost use Rattle.elide_hunt.specs.Printed.{AreOrders, IsHunted, IsPlanOf, IsPrin
 use crate::fault::fault_of;
 use crate::object::tell_object;
 use crate::report::{Beside, counts_of, tell_lines};
-use crate::searching::searched;
+use crate::searching::search_runs;
 use elide_args::HuntOptions;
 use elide_checks::{Demands, Orders};
 use elide_device::{Gathered, Progress};
@@ -90,44 +90,48 @@ pub fn hunt<R: Threads + Sync + AllocGlobal, P: Paths, O: Out + Drop, G: Progres
     let path = record_path(options.record, options.machine.file, paths)?;
     let page = page_path(options.page, options.machine.file, options.record, paths)?;
     let text = read_file(options.machine.file, paths)?;
-    let made = hunted(rt, options, &settings, &orders, text.as_slice(), progress);
+    let made = hunt_text(rt, options, &settings, &orders, text.as_slice(), progress);
     // Before a refusal is told, so that no line of progress stays.
     progress.end();
     let (search, beside) = made?;
     // Not refused yet: what came about is recorded and printed first.
-    let paged = write_page(
-        rt.alloc(),
+    let ended = Ended {
         options,
-        &search,
-        text.as_slice(),
-        page,
-        pages,
-        paths,
-    );
+        text: text.as_slice(),
+        search: &search,
+    };
+    let paged = write_page(rt.alloc(), ended, page, pages, paths);
     drop(text);
     write_record(&search, path, paths)?;
     let (answer, out) = tell(rt.alloc(), options, &search, beside, out)?;
     Ok((answer, paged?, out))
 }
 
+// A search that has ended: what was asked for, the text that it ran, and what it came to.
+#[derive(Clone, Copy)]
+struct Ended<'a> {
+    options: &'a HuntOptions<'a>,
+    text: &'a [u8],
+    search: &'a Search,
+}
+
 // Writes the page of the run that failed, if one did, where there is a path.
 fn write_page<P: Paths, W: Pages>(
     alloc: Global,
-    options: &HuntOptions<'_>,
-    search: &Search,
-    text: &[u8],
+    ended: Ended<'_>,
     page: Option<&str>,
     pages: &W,
     paths: &mut P,
 ) -> Result<Paged, Refusal>
     ensures { IfErr result (λ why. (given : Bor (List ℕ)) × (found : Found) × (page.entry ≡ Some given)
-        × (search.now.found ≡ Some found)
-        × IsNotPaged text.now options.now.machine (deciding found.failure) why) }
+        × (ended.entry.search.now.found ≡ Some found)
+        × IsNotPaged ended.entry.text.now ended.entry.options.now.machine (deciding found.failure) why) }
 {
-    match (page, &search.found) {
+    match (page, &ended.search.found) {
         (Some(page), Some(found)) => {
+            let machine = &ended.options.machine;
             let picks = found.failure.deciding();
-            pages.write_page(alloc, &options.machine, text, picks, page, paths)
+            pages.write_page(alloc, machine, ended.text, picks, page, paths)
         }
         _ => Ok(Paged::AsAsked),
     }
@@ -202,7 +206,7 @@ fn put_lines<O: Out + Drop>(
 }
 
 // Searches the program of a file, and shortens the schedule that is found; with what is told beside it.
-fn hunted<R: Threads + Sync + AllocGlobal, G: Progress>(
+fn hunt_text<R: Threads + Sync + AllocGlobal, G: Progress>(
     rt: &R,
     options: &HuntOptions<'_>,
     settings: &Settings<'_>,
@@ -223,15 +227,15 @@ fn hunted<R: Threads + Sync + AllocGlobal, G: Progress>(
     let file = ProgramFile::read(alloc, text)?;
     let demands = Demands::read(alloc, options, text, &file)?;
     let setup = Setup::of_file(alloc, settings, &file)?;
-    let made = hunted_in(rt, &demands, &setup, orders, progress);
+    let made = hunt_setup(rt, &demands, &setup, orders, progress);
     drop(setup);
     drop(demands);
     drop(file);
     made
 }
 
-// What [`hunted`] does once the program is loaded.
-fn hunted_in<R: Threads + Sync + AllocGlobal, G: Progress>(
+// What [`hunt_text`] does once the program is loaded.
+fn hunt_setup<R: Threads + Sync + AllocGlobal, G: Progress>(
     rt: &R,
     demands: &Demands,
     setup: &Setup,
@@ -253,11 +257,11 @@ fn hunted_in<R: Threads + Sync + AllocGlobal, G: Progress>(
         most: orders.most,
         checks,
     };
-    shortest(rt, &trial, orders, progress)
+    hunt_trial(rt, &trial, orders, progress)
 }
 
 // A search whose schedule is shortened, with how long it was before and the loop that it comes to.
-fn shortest<R: Threads + Sync + AllocGlobal, G: Progress>(
+fn hunt_trial<R: Threads + Sync + AllocGlobal, G: Progress>(
     rt: &R,
     trial: &Trial<'_>,
     orders: &Orders,
@@ -266,7 +270,7 @@ fn shortest<R: Threads + Sync + AllocGlobal, G: Progress>(
     ensures hunted { IfOk result (λ made. IsHunted trial.now orders.now made.1 made.0) }
     ensures refused { IfErr result (IsNotHunted trial.now) }
 {
-    let Search { found, ended, cut } = tried(rt, trial, orders, progress)?;
+    let Search { found, ended, cut } = try_runs(rt, trial, orders, progress)?;
     let Some(Found { run, mut failure }) = found else {
         let found = None;
         let beside = Beside {
@@ -276,14 +280,14 @@ fn shortest<R: Threads + Sync + AllocGlobal, G: Progress>(
         return Ok((Search { found, ended, cut }, beside));
     };
     let before = counts_of(failure.picks.as_slice());
-    shortened(rt.alloc(), trial, &mut failure)?;
+    shorten_failure(rt.alloc(), trial, &mut failure)?;
     let cycle = cycle_of(rt.alloc(), trial, &failure)?;
     let found = Some(Found { run, failure });
     Ok((Search { found, ended, cut }, Beside { before, cycle }))
 }
 
 // Makes the runs.
-fn tried<R: Threads + Sync + AllocGlobal, G: Progress>(
+fn try_runs<R: Threads + Sync + AllocGlobal, G: Progress>(
     rt: &R,
     trial: &Trial<'_>,
     orders: &Orders,
@@ -303,11 +307,11 @@ fn tried<R: Threads + Sync + AllocGlobal, G: Progress>(
         length,
         events: orders.events,
     };
-    searched(rt, trial, plan, orders, progress)
+    search_runs(rt, trial, plan, orders, progress)
 }
 
 // Shortens a schedule.
-fn shortened(alloc: Global, trial: &Trial<'_>, failure: &mut Failure) -> Result<(), Refusal>
+fn shorten_failure(alloc: Global, trial: &Trial<'_>, failure: &mut Failure) -> Result<(), Refusal>
     requires { IsFailure trial.now failure.old }
     ensures fails { IsFailure trial.now failure.new }
     ensures same { failure.new.check ≡ failure.old.check }

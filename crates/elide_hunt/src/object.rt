@@ -52,14 +52,13 @@ fn search_line(
 ) -> Result<String, AllocError>
     ensures { IfOk result (λ line. string_bytes line ≡ object_text (search_value options.now beside search.now)) }
 {
-    let (ended, cut) = (search.ended, search.cut);
     match &search.found {
-        Some(found) => failure_line(alloc, options, found, beside, ended, cut),
+        Some(found) => failure_line(alloc, options, search, found, beside),
         None => line_of(
             alloc,
             &HuntObject {
-                ended,
-                cut,
+                ended: search.ended,
+                cut: search.cut,
                 failure: None,
             },
         ),
@@ -70,12 +69,11 @@ fn search_line(
 fn failure_line(
     alloc: Global,
     options: &HuntOptions<'_>,
+    search: &Search,
     found: &Found,
     beside: Beside,
-    ended: u32,
-    cut: u32,
 ) -> Result<String, AllocError>
-    ensures { IfOk result (λ line. string_bytes line ≡ object_text (hunt_value ended cut
+    ensures { IfOk result (λ line. string_bytes line ≡ object_text (hunt_value search.now.ended search.now.cut
         (found_value options.now beside (Some found.now)) 3)) }
 {
     let command = command_bytes(alloc, options, found.run, found.failure.deciding())?;
@@ -92,8 +90,8 @@ fn failure_line(
     line_of(
         alloc,
         &HuntObject {
-            ended,
-            cut,
+            ended: search.ended,
+            cut: search.cut,
             failure,
         },
     )

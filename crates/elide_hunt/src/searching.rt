@@ -1,6 +1,6 @@
 //! Runs on several threads, until one fails: block after block, each up to twice as long as the last.
 //!
-//! [`searched`] begins with few runs, so that a failure among the first costs no more, and ends with many, so that
+//! [`search_runs`] begins with few runs, so that a failure among the first costs no more, and ends with many, so that
 //! threads seldom wait. A block is joined before the next begins, and progress told between them. The run that failed
 //! is made once more, on this thread, for its schedule. Shortening is not done here, but in `command`.
 
@@ -26,7 +26,7 @@ const MOST_SHARE: u32 = 4096;
 /// Makes the runs that are asked for by a plan until one fails, each thread a share of runs side by side. Of the runs
 /// that fail the one with the lowest number is told, and those with a lower one are counted, so that the answer does
 /// not depend on the threads. What is told is what that run comes to when it is made once more.
-pub fn searched<R: Threads + Sync + AllocGlobal, G: Progress>(
+pub fn search_runs<R: Threads + Sync + AllocGlobal, G: Progress>(
     rt: &R,
     trial: &Trial<'_>,
     plan: Plan,
@@ -52,7 +52,7 @@ pub fn searched<R: Threads + Sync + AllocGlobal, G: Progress>(
             end,
             jobs,
         };
-        let search = searched_in(rt, &block)?;
+        let search = search_block(rt, &block)?;
         ended += search.ended;
         cut += search.cut;
         if search.found.is_some() {
@@ -91,7 +91,7 @@ fn block_end(first: u32, size: u32, jobs: u32, orders: &Orders) -> u32
 }
 
 // Makes the runs of a block, and the one that failed once more, on this thread.
-fn searched_in<R: Threads + Sync + AllocGlobal>(
+fn search_block<R: Threads + Sync + AllocGlobal>(
     rt: &R,
     block: &Block<'_>,
 ) -> Result<Search, Refusal>
@@ -102,7 +102,7 @@ fn searched_in<R: Threads + Sync + AllocGlobal>(
         block.now.first block.now.end) }
     ensures refused { IfErr result (IsNotHunted block.now.trial) }
 {
-    let share = block.made(rt)?;
+    let share = block.make_runs(rt)?;
     let Some(failing) = share.failed else {
         return Ok(Search {
             found: None,

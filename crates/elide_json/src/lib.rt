@@ -16,5 +16,5 @@ mod outcomes;
 mod text;
 mod words;
 
-pub use objects::{put_back, put_replay, put_threads};
+pub use objects::{Subject, put_back, put_replay, put_threads};
 pub use outcomes::{put_front, put_outcome};

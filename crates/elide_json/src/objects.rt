@@ -29,6 +29,17 @@ use std::alloc::Global;
 use text_out::Out;
 use tm_core::Machine;
 
+/// What an object tells: a machine, and what is asked for of its memory.
+#[derive(Clone, Copy)]
+pub struct Subject<'a> {
+    /// The machine.
+    pub machine: &'a Machine,
+    /// The parts and the doublewords that are asked for.
+    pub parts: &'a MemoryParts,
+    /// The texts that asked for the doublewords.
+    pub texts: &'a [&'a str],
+}
+
 // A machine, and the rows of its memory.
 #[derive(Clone, Copy)]
 struct Shown<'a> {
@@ -141,18 +152,18 @@ fn shown_of<'a>(machine: &'a Machine, rows: &'a Rows) -> Shown<'a>
 /// Writes the object of a machine that was run again, and the exit status of whether both runs ended alike.
 pub fn put_replay<O: Out>(
     alloc: Global,
-    machine: &Machine,
-    parts: &MemoryParts,
-    texts: &[&str],
+    subject: Subject<'_>,
     agrees: bool,
     status: u8,
     out: &mut O,
 ) -> Result<(), Refusal>
-    ensures unsent { IfErr result (IsUnsent machine.now.memory parts.now) }
+    ensures unsent { IfErr result (IsUnsent subject.entry.machine.now.memory subject.entry.parts.now) }
     ensures wrote { OnOk result (Wrote (O.device out.old) (O.device out.new)
-        (object_text (replay_value machine.now parts.now texts.now agrees status))) }
+        (object_text (replay_value subject.entry.machine.now subject.entry.parts.now subject.entry.texts.now
+        agrees status))) }
 {
-    let rows = Rows::of_memory(alloc, machine.view(), parts, texts)?;
+    let machine = subject.machine;
+    let rows = Rows::of_memory(alloc, machine.view(), subject.parts, subject.texts)?;
     let shown = shown_of(machine, &rows);
     let line = line_of_replay(
         alloc,
@@ -187,19 +198,19 @@ pub fn put_threads<O: Out>(
 /// that have not stopped, where it is expected that all do, and the exit status.
 pub fn put_back<O: Out>(
     alloc: Global,
+    subject: Subject<'_>,
     traces: bool,
-    machine: &Machine,
-    parts: &MemoryParts,
-    texts: &[&str],
     running: Option<&[u32]>,
     status: u8,
     out: &mut O,
 ) -> Result<(), Refusal>
-    ensures unsent { IfErr result (IsUnsent machine.now.memory parts.now) }
+    ensures unsent { IfErr result (IsUnsent subject.entry.machine.now.memory subject.entry.parts.now) }
     ensures wrote { OnOk result (Wrote (O.device out.old) (O.device out.new)
-        (run_back traces (run_members machine.now parts.now texts.now (option_copied running.entry) status))) }
+        (run_back traces (run_members subject.entry.machine.now subject.entry.parts.now subject.entry.texts.now
+        (option_copied running.entry) status))) }
 {
-    let rows = Rows::of_memory(alloc, machine.view(), parts, texts)?;
+    let machine = subject.machine;
+    let rows = Rows::of_memory(alloc, machine.view(), subject.parts, subject.texts)?;
     let shown = shown_of(machine, &rows);
     let line = line_of_run(
         alloc,

@@ -3,9 +3,7 @@ use Rattle.std.proofs.Common.{ℕ, Bool, List, Option, append-nil, subst}
 use Rattle.std.specs.Io.KnownBytes.{Appends, Keeps}
 use Rattle.text_out.proofs.Writing.{appends_same, appends_then}
 use Rattle.elide_args.specs.declared.subcommand.OutcomesOptions.{OutcomesOptions}
-use Rattle.elide_program.specs.declared.file.ProgramFile.{ProgramFile}
-use Rattle.tm_outcomes.specs.declared.trial.Trial.{Trial}
-use Rattle.elide_outcomes.specs.Printed.{AreWritten, IsPrinted, IsTold, IsWritten}
+use Rattle.elide_outcomes.specs.Printed.{AreWritten, IsPrinted}
 use Rattle.elide_outcomes.specs.declared.found.Found.{Found}
 use Rattle.elide_outcomes.specs.declared.verdict.Answer.{Answer}
 
@@ -25,34 +23,16 @@ words_on options words found first begun ended last before written behind = reco
   object = λ yes. passed_on first begun ended last _ before (written.object yes) behind;
 }
 
-told_on : (file : ProgramFile) (trial : Trial) (most : ℕ) (options : OutcomesOptions) (answer : Answer)
-    (first begun ended last : Option (List ℕ)) → Keeps first begun → IsTold file trial most options answer begun ended →
-    Keeps ended last → IsTold file trial most options answer first last
-told_on file trial most options answer first begun ended last before told behind = record {
-  found = told.found;
-  is_found = told.is_found;
-  came_to = told.came_to;
-  wrote = record {
-    words = told.wrote.words;
-    given = told.wrote.given;
-    wrote = words_on options told.wrote.words told.found first begun ended last before told.wrote.wrote behind;
-  };
-}
-
 pub printed_on : (content : List ℕ → Option (List ℕ)) (options : OutcomesOptions) (answer : Answer)
     (first begun ended last : Option (List ℕ)) → Keeps first begun → IsPrinted content options answer begun ended →
     Keeps ended last → IsPrinted content options answer first last
 printed_on content options answer first begun ended last before printed behind = record {
-  setup = printed.setup;
-  asked = printed.asked;
-  under = printed.under;
-  said = printed.said;
-  stops = printed.stops;
-  named = printed.named;
-  trial = printed.trial;
-  shows = printed.shows;
-  most = printed.most;
-  limit = printed.limit;
-  told = told_on printed.asked.file printed.trial printed.most options answer first begun ended last before
-      printed.told behind;
+  found = printed.found;
+  searched = printed.searched;
+  came_to = printed.came_to;
+  wrote = record {
+    words = printed.wrote.words;
+    given = printed.wrote.given;
+    wrote = words_on options printed.wrote.words printed.found first begun ended last before printed.wrote.wrote behind;
+  };
 }

@@ -97,17 +97,8 @@ pub record IsWritten (options : OutcomesOptions) (found : Found) (before after :
   pub given : AreWordsOf (option_copied options.show) words
   pub wrote : AreWritten options words found before after
 
--- what a search found was written, and the answer says whether its limit ended it, or it found what is wrong
-pub record IsTold (file : ProgramFile) (trial : Trial) (most : ℕ) (options : OutcomesOptions) (answer : Answer)
-    (before after : Option (List ℕ)) : Type 0 where
-  pub found : Found
-  pub is_found : IsFound file trial most found
-  pub came_to : answer ≡ answer_of options.asks_stuck found.search
-  pub wrote : IsWritten options found before after
-
--- of the machine of the options and of the program that FILE's content is read as, up to the limit of the options
-pub record IsPrinted (content : List ℕ → Option (List ℕ)) (options : OutcomesOptions) (answer : Answer)
-    (before after : Option (List ℕ)) : Type 0 where
+-- the search of FILE's program that the options ask for found this
+pub record IsSearched (content : List ℕ → Option (List ℕ)) (options : OutcomesOptions) (found : Found) : Type 0 where
   pub setup : Setup
   pub asked : IsAsked (content options.machine.file.now) options.machine setup
   pub under : Under
@@ -118,4 +109,12 @@ pub record IsPrinted (content : List ℕ → Option (List ℕ)) (options : Outco
   pub shows : IsTrialOf asked.read.text asked.file setup options under stops trial
   pub most : ℕ
   pub limit : IsLimit (option_copied options.limit) most
-  pub told : IsTold asked.file trial most options answer before after
+  pub is_found : IsFound asked.file trial most found
+
+-- what it found was written, and the answer says whether its limit ended it, or it found what is wrong
+pub record IsPrinted (content : List ℕ → Option (List ℕ)) (options : OutcomesOptions) (answer : Answer)
+    (before after : Option (List ℕ)) : Type 0 where
+  pub found : Found
+  pub searched : IsSearched content options found
+  pub came_to : answer ≡ answer_of options.asks_stuck found.search
+  pub wrote : IsWritten options found before after

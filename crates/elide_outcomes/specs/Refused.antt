@@ -21,7 +21,7 @@ use Rattle.elide_setup.specs.Events.{kinds_said}
 use Rattle.elide_setup.specs.Faults.{refusal_of, want}
 use Rattle.elide_setup.specs.Misuse.{IsMisuse}
 use Rattle.elide_setup.specs.Refused.{IsAnyWant, IsNoMachine, IsNotLoaded, IsNotPaged, IsPageOver, IsUntold}
-use Rattle.elide_setup.specs.Setup.{IsAsked, IsSetup}
+use Rattle.elide_setup.specs.Setup.{IsSetup}
 use Rattle.elide_setup.specs.declared.fault.Fault.TheVariants as fault
 use Rattle.elide_setup.specs.declared.fault.Refusal.{Refusal}
 use Rattle.elide_setup.specs.declared.fault.Refusal.TheVariants as refusal
@@ -33,7 +33,7 @@ use Rattle.tm_outcomes.specs.declared.trial.Item.{Item}
 use Rattle.tm_outcomes.specs.declared.trial.Trial.{Trial}
 use Rattle.tm_rule.specs.declared.kinds.Stop.{Stop}
 use Rattle.elide_outcomes.specs.Items.{AreItems, AreWords, HasNoItem}
-use Rattle.elide_outcomes.specs.Printed.{IsFound, IsLimit, IsMade, IsTrialOf, asks_more}
+use Rattle.elide_outcomes.specs.Printed.{IsMade, IsSearched, asks_more}
 use Rattle.elide_outcomes.specs.Stops.{AreStops}
 use Rattle.elide_outcomes.specs.Under.{IsUnder}
 use Rattle.elide_outcomes.specs.declared.found.Found.{Found}
@@ -134,20 +134,6 @@ pub data IsNotFound (text : List ℕ) (settings : Settings) (options : OutcomesO
       → IsNotFound text settings options under reasons why
 
 -- ---- a page
-
--- the search of FILE's program that the options ask for found this
-pub record IsSearched (content : List ℕ → Option (List ℕ)) (options : OutcomesOptions) (found : Found) : Type 0 where
-  pub setup : Setup
-  pub asked : IsAsked (content options.machine.file.now) options.machine setup
-  pub under : Under
-  pub said : IsUnder (option_copied options.events) under
-  pub stops : List Stop
-  pub named : AreStops options.stops.items stops
-  pub trial : Trial
-  pub shows : IsTrialOf asked.read.text asked.file setup options under stops trial
-  pub most : ℕ
-  pub limit : IsLimit (option_copied options.limit) most
-  pub is_found : IsFound asked.file trial most found
 
 -- of these outcomes the one that is asked for has no page: fewer are told, or its schedule is not written as one, of
 -- the program of this text

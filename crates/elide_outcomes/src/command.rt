@@ -28,7 +28,7 @@ use crate::found::Found;
 use crate::items::items_of;
 use crate::names::labels_of;
 use crate::object::tell_object;
-use crate::paged::PageAsked;
+use crate::paged::{PageAsked, Searched};
 use crate::report::{sort, tell};
 use crate::shown::words_of;
 use crate::stops::stops_of;
@@ -52,6 +52,8 @@ const USUAL_LIMIT: u32 = 1_000_000;
 /// What is asked of a search, beside its machine.
 #[derive(Clone, Copy)]
 pub struct Asked<'a> {
+    /// For what is found.
+    pub alloc: Global,
     /// What is shown, checked and looked for.
     pub options: &'a OutcomesOptions<'a>,
     /// What the steps come under.
@@ -60,6 +62,14 @@ pub struct Asked<'a> {
     pub stops: &'a [Stop],
     /// The most states.
     pub most: u32,
+}
+
+// The options, of which the stops that are looked for are read.
+#[derive(Clone, Copy)]
+struct Request<'a> {
+    alloc: Global,
+    options: &'a OutcomesOptions<'a>,
+    stops: &'a [Stop],
 }
 
 /// Searches all schedules of a program, prints each outcome in the order of its values, and writes the page of one
@@ -103,56 +113,62 @@ fn outcomes_of_options<P: Paths, O: Out, G: Progress, W: Pages>(
         (IsRefused (P.content paths.old) (P.are_one paths.old) options.now) }
 {
     let stops = stops_of(alloc, options.stops.as_slice())?;
-    let answer = outcomes_with_stops(
+    let request = Request {
         alloc,
         options,
-        stops.as_slice(),
-        paths,
-        pages,
-        out,
-        progress,
-    );
+        stops: stops.as_slice(),
+    };
+    let answer = outcomes_with_stops(request, paths, pages, out, progress);
     drop(stops);
     answer
 }
 
 // What [`outcomes_of_options`] does once the stops that are looked for are read.
 fn outcomes_with_stops<P: Paths, O: Out, G: Progress, W: Pages>(
-    alloc: Global,
-    options: &OutcomesOptions<'_>,
-    stops: &[Stop],
+    request: Request<'_>,
     paths: &mut P,
     pages: &W,
     out: &mut O,
     progress: &mut G,
 ) -> Result<(Answer, Result<Paged, Refusal>), Refusal>
-    requires { AreStops options.now.stops.items stops.now }
-    ensures ok { IfOk result (λ r. IsPrinted (P.content paths.old) options.now r.0
+    requires { AreStops request.options.now.stops.items request.stops.now }
+    ensures ok { IfOk result (λ r. IsPrinted (P.content paths.old) request.entry.options.now r.0
         (O.device out.old).contents (O.device out.new).contents) }
     ensures page { IfOk result (λ r. IfErr r.1
-        (IsRefused (P.content paths.old) (P.are_one paths.old) options.now)) }
+        (IsRefused (P.content paths.old) (P.are_one paths.old) request.entry.options.now)) }
     ensures err { IfErr result
-        (IsRefused (P.content paths.old) (P.are_one paths.old) options.now) }
+        (IsRefused (P.content paths.old) (P.are_one paths.old) request.entry.options.now) }
 {
+    let Request {
+        alloc,
+        options,
+        stops,
+    } = request;
     let settings = Settings::read(&options.machine)?;
     let under = Under::read(options.events)?;
     let most = limit_of(options.limit)?;
     let page = PageAsked::read(options, paths)?;
     let asked = Asked {
+        alloc,
         options,
         under,
         stops,
         most,
     };
     let text = read_file(options.machine.file, paths)?;
-    let made = search_of_text(alloc, &asked, &settings, text.as_slice(), progress);
+    let made = search_of_text(&asked, &settings, text.as_slice(), progress);
     // Here, where a search that was refused comes by, too.
     progress.end();
     let found = made?;
     write(alloc, options, &found, out)?;
     let answer = Answer::of(options.asks_stuck, &found.search);
     let told = found.search.outcomes.as_slice();
-    let paged = page.write(alloc, &options.machine, text.as_slice(), told, pages, paths);
+    let searched = Searched {
+        machine: &options.machine,
+        text: text.as_slice(),
+        told,
+    };
+    let paged = page.write(alloc, searched, pages, paths);
     Ok((answer, paged))
 }
 
@@ -193,7 +209,6 @@ fn write_words<O: Out>(
 // Searches a program's text. What is made in one of these functions is lent to the next, so that each has little to
 // drop.
 fn search_of_text<G: Progress>(
-    alloc: Global,
     asked: &Asked<'_>,
     settings: &Settings<'_>,
     text: &[u8],
@@ -207,15 +222,14 @@ fn search_of_text<G: Progress>(
         × IsFound file trial asked.now.most found)
         (IsNotFound text.now settings.now asked.now.options.now asked.now.under asked.now.stops.now) }
 {
-    let file = ProgramFile::read(alloc, text)?;
-    let found = search_of_file(alloc, asked, settings, text, &file, progress);
+    let file = ProgramFile::read(asked.alloc, text)?;
+    let found = search_of_file(asked, settings, text, &file, progress);
     drop(file);
     found
 }
 
 // What [`search_of_text`] does once the text is read as a program.
 fn search_of_file<G: Progress>(
-    alloc: Global,
     asked: &Asked<'_>,
     settings: &Settings<'_>,
     text: &[u8],
@@ -229,6 +243,7 @@ fn search_of_file<G: Progress>(
         × IsFound file.now trial asked.now.most found)
         (IsNotFoundIn text.now file.now settings.now asked.now.options.now asked.now.under asked.now.stops.now) }
 {
+    let alloc = asked.alloc;
     let options = asked.options;
     let items = items_of(alloc, options.show, !asks_more(options), file)?;
     let ends = EndChecks::read(
@@ -242,15 +257,7 @@ fn search_of_file<G: Progress>(
     let listed = asked.under.listed(alloc)?;
     let events = asked.under.events(listed.as_slice());
     let setup = Setup::of_file(alloc, settings, file)?;
-    let search = search_of_setup(
-        alloc,
-        asked,
-        items.as_slice(),
-        &ends,
-        events,
-        &setup,
-        progress,
-    )?;
+    let search = search_of_setup(asked, items.as_slice(), &ends, events, &setup, progress)?;
     Ok(Found { search, labels })
 }
 
@@ -266,7 +273,6 @@ fn asks_more(options: &OutcomesOptions<'_>) -> bool
 
 // What [`search_of_file`] does once the program is loaded, with what is shown and checked of its machine.
 fn search_of_setup<'x, G: Progress>(
-    alloc: Global,
     asked: &'x Asked<'x>,
     items: &'x [Item],
     ends: &'x EndChecks,
@@ -291,11 +297,11 @@ fn search_of_setup<'x, G: Progress>(
         stops: asked.stops,
         checks,
     };
-    sorted(alloc, &trial, asked.most, progress)
+    search_in_order(asked.alloc, &trial, asked.most, progress)
 }
 
 // Searches, and brings the outcomes into the order of their values.
-fn sorted<G: Progress>(
+fn search_in_order<G: Progress>(
     alloc: Global,
     trial: &Trial<'_>,
     most: u32,
@@ -304,7 +310,7 @@ fn sorted<G: Progress>(
     requires { 1 ≤ most }
     ensures { MatchResult result (IsSorted trial.now most) (IsNotSearched trial.now) }
 {
-    let mut search = search(alloc, trial, most, progress)?;
+    let mut search = search_trial(alloc, trial, most, progress)?;
     sort(&mut search.outcomes);
     Ok(search)
 }
@@ -324,7 +330,7 @@ fn limit_of(text: Option<&str>) -> Result<u32, Refusal>
 }
 
 // Searches, where what is to be shown is there.
-fn search<G: Progress>(
+fn search_trial<G: Progress>(
     alloc: Global,
     trial: &Trial<'_>,
     most: u32,

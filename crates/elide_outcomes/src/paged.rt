@@ -27,6 +27,17 @@ pub enum PageAsked<'a> {
     },
 }
 
+/// A search that has ended: of which machine and text, and what it told.
+#[derive(Clone, Copy)]
+pub struct Searched<'a> {
+    /// What the options say of the machine.
+    pub machine: &'a MachineOptions<'a>,
+    /// The text that was searched.
+    pub text: &'a [u8],
+    /// The outcomes, in the order in which they were told.
+    pub told: &'a [FoundOutcome],
+}
+
 impl<'a> PageAsked<'a> {
     /// What the options ask for. `--page` is misused where its number is none from 1 on, or its path that of the
     /// program.
@@ -56,17 +67,21 @@ impl<'a> PageAsked<'a> {
     pub fn write<P: Paths, W: Pages>(
         self,
         alloc: Global,
-        machine: &MachineOptions<'_>,
-        text: &[u8],
-        told: &[FoundOutcome],
+        searched: Searched<'_>,
         pages: &W,
         paths: &mut P,
     ) -> Result<Paged, Refusal>
-        ensures { IfErr result (IsNotShown text.now machine.now told.now self.entry) }
+        ensures { IfErr result (IsNotShown searched.entry.text.now searched.entry.machine.now
+            searched.entry.told.now self.entry) }
     {
         let PageAsked::Of { index, path } = self else {
             return Ok(Paged::AsAsked);
         };
+        let Searched {
+            machine,
+            text,
+            told,
+        } = searched;
         match told.get(index as usize) {
             Some(outcome) => {
                 let picks = outcome.schedule.as_slice();

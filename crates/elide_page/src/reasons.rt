@@ -34,11 +34,11 @@ pub fn write_reasons<O: Out + Drop>(job: &Job<'_>, out: O) -> Result<O, Refusal>
     let subject = &job.subject;
     let loaded = subject.loaded;
     let teller = Teller::new(&loaded.setup.program, subject.path, loaded.places, true);
-    reasoned(job.stretch, teller, out)
+    write_steps(job.stretch, teller, out)
 }
 
 // As [`write_reasons`], by what tells the reasons.
-fn reasoned<T: Reasoner + Drop, O: Out + Drop>(
+fn write_steps<T: Reasoner + Drop, O: Out + Drop>(
     stretch: Stretch<'_>,
     teller: T,
     out: O,
@@ -50,7 +50,7 @@ fn reasoned<T: Reasoner + Drop, O: Out + Drop>(
     let alloc = stretch.alloc;
     let machine = new_machine(alloc, stretch.setup)?;
     let cores = machine.cores();
-    let out = begun(out)?;
+    let out = put_front(out)?;
     let mut reasoning = Reasoning {
         alloc,
         machine,
@@ -65,7 +65,7 @@ fn reasoned<T: Reasoner + Drop, O: Out + Drop>(
         .walk(alloc, cores, false, &mut reasoning, &mut Silent)?;
     let Reasoning { out, made, .. } = reasoning;
     check_total(made, stretch.total)?;
-    ended(out)
+    put_end(out)
 }
 
 // That so many steps were made as the run has. A schedule makes the steps again that it made as it was surveyed.
@@ -81,7 +81,7 @@ fn check_total(made: u64, total: u64) -> Result<(), Refusal>
 }
 
 // The beginning of the object.
-fn begun<O: Out + Drop>(out: O) -> Result<O, Refusal>
+fn put_front<O: Out + Drop>(out: O) -> Result<O, Refusal>
     ensures text { IfOk result (λ last. Wrote (O.device out) (O.device last) (codes ",\n\"why\":{")) }
     ensures refused { IfErr result IsUnwritten }
 {
@@ -91,7 +91,7 @@ fn begun<O: Out + Drop>(out: O) -> Result<O, Refusal>
 }
 
 // The end of the object, and of the data.
-fn ended<O: Out + Drop>(out: O) -> Result<O, Refusal>
+fn put_end<O: Out + Drop>(out: O) -> Result<O, Refusal>
     ensures text { IfOk result (λ last. Wrote (O.device out) (O.device last) (codes "}}")) }
     ensures refused { IfErr result IsUnwritten }
 {
@@ -162,22 +162,20 @@ impl<T: Reasoner, O: Out> StepMaker for Reasoning<T, O> {
     fn make_step(&mut self, pick: Pick) -> Result<Outcome, Refusal> {
         let made = one_more(self.made)?;
         let is_past = self.made >= self.window.to;
-        let step = step_reasoned(
+        let step = take_step(
             self.alloc,
             is_past,
             &mut self.machine,
             &mut self.teller,
             pick,
         )?;
-        let some = put_step(
-            self.alloc,
-            self.window,
-            self.made,
-            made,
-            self.some,
-            &step,
-            &mut self.out,
-        )?;
+        let standing = Standing {
+            window: self.window,
+            made: self.made,
+            number: made,
+            some: self.some,
+        };
+        let some = put_step(self.alloc, standing, &step, &mut self.out)?;
         self.some = some;
         self.made = made;
         Ok(step.outcome)
@@ -205,7 +203,7 @@ struct MadeStep {
 
 // Makes a step, with its line where it is not behind the last of the page. Its only failure beside the machine's is
 // want of memory.
-fn step_reasoned<T: Reasoner>(
+fn take_step<T: Reasoner>(
     alloc: Global,
     is_past: bool,
     machine: &mut Machine,
@@ -234,22 +232,38 @@ fn step_reasoned<T: Reasoner>(
     })
 }
 
-// Writes why the step of this number, behind so many others, aborted or stopped, where it did and stands in the page.
-// Answers whether one was written so far.
-fn put_step<O: Out>(
-    alloc: Global,
+// Where a step stands.
+#[derive(Clone, Copy)]
+struct Standing {
     window: Window,
+    // Behind how many others.
     made: u64,
     number: u64,
+    // Whether a reason was written before it.
     some: bool,
+}
+
+// Writes why a step aborted or stopped, where it did and stands in the page. Answers whether a reason was written so
+// far.
+fn put_step<O: Out>(
+    alloc: Global,
+    standing: Standing,
     step: &MadeStep,
     out: &mut O,
 ) -> Result<bool, Refusal>
-    requires { number ≡ made + 1 }
-    ensures piece { OnOk result (IsPiece window made some step.now.outcome (O.device out.old) (O.device out.new)) }
-    ensures some { IfOk result (λ is. is ≡ (some || is_told window made step.now.outcome)) }
+    requires { standing.number ≡ standing.made + 1 }
+    ensures piece { OnOk result (IsPiece standing.window standing.made standing.some step.now.outcome
+        (O.device out.old) (O.device out.new)) }
+    ensures some { IfOk result
+        (λ is. is ≡ (standing.some || is_told standing.window standing.made step.now.outcome)) }
     ensures refused { IfErr result IsUntold }
 {
+    let Standing {
+        window,
+        made,
+        number,
+        some,
+    } = standing;
     match words_told(window, made, step.outcome) {
         None => Ok(some),
         Some(words) => {

@@ -30,7 +30,7 @@ ghost use Rattle.tm_hist.specs.Replay.{Replays};
 use crate::agreement::{Agreement, agreement_of};
 use elide_args::ReplayOptions;
 use elide_device::{Gathered, Progress};
-use elide_json::put_replay;
+use elide_json::{Subject, put_replay};
 use elide_program::Paths;
 use elide_setup::{
     Course, Fault, Opened, Refusal, Setup, ShownMemory, record, record_path, show, shown_memory,
@@ -40,6 +40,19 @@ use std::alloc::Global;
 use text_out::Out;
 use tm_core::RunFault;
 use tm_hist::{Board, Serial};
+
+// A board whose history is run again: what each step of the way reads.
+#[derive(Clone, Copy)]
+struct Rerun<'a> {
+    alloc: Global,
+    options: &'a ReplayOptions<'a>,
+    setup: &'a Setup,
+    board: &'a Board,
+    // Where reasons are asked for.
+    places: Option<&'a NamedPlaces>,
+    // Where the schedule is written.
+    path: Option<&'a str>,
+}
 
 /// Runs a schedule on a board, and its history again on one memory; prints the aborts with their reasons where they are
 /// asked for, the state, what is asked for of memory, and whether both ended alike, which they always do: a board's
@@ -64,19 +77,17 @@ pub fn replay<P: Paths, O: Out + Drop, G: Progress>(
         return Err(Refusal::Usage("--json"));
     }
     let path = record_path(options.record, options.machine.file, paths)?;
-    let (setup, course, places) = begun(alloc, options, names, paths)?;
+    let (setup, course, places) = begin(alloc, options, names, paths)?;
     let board = board_of(alloc, &setup, &course, progress)?;
-    compared(
+    let rerun = Rerun {
         alloc,
-        &setup,
-        &board,
         options,
-        places.as_ref(),
+        setup: &setup,
+        board: &board,
+        places: places.as_ref(),
         path,
-        paths,
-        out,
-        progress,
-    )
+    };
+    compare(rerun, paths, out, progress)
 }
 
 // A board after the steps of a schedule, for which it has just the room.
@@ -91,7 +102,7 @@ fn board_of<G: Progress>(
         × AreOf course.now (picks_made steps)) }
     ensures none { IfErr result (IsNotMade setup.now course.now) }
 {
-    let mut board = opened(alloc, setup, course.most())?;
+    let mut board = new_board(alloc, setup, course.most())?;
     let cores = board.cores();
     course.check_cores(cores)?;
     course.walk(alloc, cores, false, &mut board, progress)?;
@@ -99,7 +110,7 @@ fn board_of<G: Progress>(
 }
 
 // A board before its first step, with room for so many, and for one at least.
-fn opened(alloc: Global, setup: &Setup, most: u64) -> Result<Board, Refusal>
+fn new_board(alloc: Global, setup: &Setup, most: u64) -> Result<Board, Refusal>
     ensures made { IfOk result (λ board. IsNew setup.now.program setup.now.limits (max most 1) board) }
     ensures none { IfErr result (IsNoBoard setup.now (max most 1)) }
 {
@@ -110,45 +121,38 @@ fn opened(alloc: Global, setup: &Setup, most: u64) -> Result<Board, Refusal>
 }
 
 // Runs the board's history again, and prints what is asked for, and whether both ended alike.
-fn compared<P: Paths, O: Out + Drop, G: Progress>(
-    alloc: Global,
-    setup: &Setup,
-    board: &Board,
-    options: &ReplayOptions<'_>,
-    places: Option<&NamedPlaces>,
-    path: Option<&str>,
+fn compare<P: Paths, O: Out + Drop, G: Progress>(
+    rerun: Rerun<'_>,
     paths: &mut P,
     out: O,
     progress: &mut G,
 ) -> Result<(Agreement, O), Refusal>
-    requires { options.now.explains ≡ false → places ≡ None }
+    requires { rerun.options.now.explains ≡ false → rerun.places ≡ None }
     ensures agrees { IfOk result (λ r. r.0 ≡ Agreement.Agrees) }
-    ensures told { IfOk result
-        (λ r. IsTold setup.now options.now board.now (O.device out).contents (O.device r.1).contents) }
-    ensures recorded { IfOk result (λ _. IsRecorded (P.content paths.new) path.entry
-        (schedule_text (picks_of board.now.history))) }
-    ensures refused { IfErr result (IsNotCompared setup.now board.now path.entry) }
+    ensures told { IfOk result (λ r. IsTold rerun.entry.setup.now rerun.entry.options.now rerun.entry.board.now
+        (O.device out).contents (O.device r.1).contents) }
+    ensures recorded { IfOk result (λ _. IsRecorded (P.content paths.new) rerun.entry.path
+        (schedule_text (picks_of rerun.entry.board.now.history))) }
+    ensures refused { IfErr result (IsNotCompared rerun.entry.setup.now rerun.entry.board.now rerun.entry.path) }
 {
+    let alloc = rerun.alloc;
+    let board = rerun.board;
+    let places = rerun.places;
     // By this it is known that the machine is the run of the history, which is run again below.
     board.is_run();
-    let sums = options.machine.shows.as_slice();
+    let sums = rerun.options.machine.shows.as_slice();
     // Before the record and the first line: what cannot be shown leaves both away.
-    let memory = shown_memory(board.machine().view(), &setup.parts, sums)?;
-    let serial = again(alloc, board)?;
+    let memory = shown_memory(board.machine().view(), &rerun.setup.parts, sums)?;
+    let serial = run_again(alloc, board)?;
     // Before the first line: a device that fails leaves a whole record.
-    write_record(alloc, board, path, paths)?;
+    write_record(alloc, board, rerun.path, paths)?;
     let mut page = Gathered::new(out);
     if let Some(places) = places {
-        tell_history(
-            alloc,
-            board,
-            options.machine.file,
-            places,
-            &mut page,
-            progress,
-        )?;
+        let options = rerun.options;
+        let file = options.machine.file;
+        tell_history(alloc, board, file, places, &mut page, progress)?;
     }
-    let agreement = tell_asked(alloc, options, setup, board, &serial, memory, &mut page)?;
+    let agreement = tell_asked(rerun, &serial, memory, &mut page)?;
     let out = page.finish()?;
     Ok((agreement, out))
 }
@@ -174,7 +178,7 @@ fn write_record<P: Paths>(
 }
 
 // The program and the schedule, and the places of its source where the reasons of the aborts are asked for.
-fn begun<P: Paths>(
+fn begin<P: Paths>(
     alloc: Global,
     options: &ReplayOptions<'_>,
     names: bool,
@@ -202,7 +206,7 @@ fn begun<P: Paths>(
 }
 
 // The serial run of a board's history.
-fn again(alloc: Global, board: &Board) -> Result<Serial, Refusal>
+fn run_again(alloc: Global, board: &Board) -> Result<Serial, Refusal>
     ensures serial { IfOk result (λ serial. Replays board.now serial) }
     ensures none { IfErr result HasNoSerial }
 {
@@ -214,49 +218,47 @@ fn again(alloc: Global, board: &Board) -> Result<Serial, Refusal>
 
 // Prints what is asked for of both runs, as lines or as one object.
 fn tell_asked<O: Out>(
-    alloc: Global,
-    options: &ReplayOptions<'_>,
-    setup: &Setup,
-    board: &Board,
+    rerun: Rerun<'_>,
     serial: &Serial,
     memory: ShownMemory<'_>,
     out: &mut O,
 ) -> Result<Agreement, Refusal>
     requires { IsWhole memory }
-    ensures agrees { IfOk result (λ agreement. agreement ≡ Agreement.Agrees ↔ Replays board.now serial.now) }
-    ensures unsent { IfErr result (IsUnsent board.now.machine.memory setup.now.parts) }
-    ensures lines { IfOk result (λ agreement. options.now.is_json ≡ false → Wrote (O.device out.old) (O.device out.new)
-        (shown_text board.now.machine memory.entry ++ agreement_text agreement)) }
-    ensures object { IfOk result (λ agreement. options.now.is_json ≡ true → Wrote (O.device out.old) (O.device out.new)
-        (agreement_object board.now.machine setup.now options.now agreement)) }
+    ensures agrees { IfOk result
+        (λ agreement. agreement ≡ Agreement.Agrees ↔ Replays rerun.entry.board.now serial.now) }
+    ensures unsent { IfErr result (IsUnsent rerun.entry.board.now.machine.memory rerun.entry.setup.now.parts) }
+    ensures lines { IfOk result (λ agreement. rerun.entry.options.now.is_json ≡ false
+        → Wrote (O.device out.old) (O.device out.new)
+        (shown_text rerun.entry.board.now.machine memory.entry ++ agreement_text agreement)) }
+    ensures object { IfOk result (λ agreement. rerun.entry.options.now.is_json ≡ true
+        → Wrote (O.device out.old) (O.device out.new)
+        (agreement_object rerun.entry.board.now.machine rerun.entry.setup.now rerun.entry.options.now agreement)) }
 {
-    if options.is_json {
-        tell_object(alloc, options, setup, board, serial, out)
+    if rerun.options.is_json {
+        tell_object(rerun, serial, out)
     } else {
-        tell(board, serial, memory, out)
+        tell(rerun.board, serial, memory, out)
     }
 }
 
 // Prints both runs as one object.
-fn tell_object<O: Out>(
-    alloc: Global,
-    options: &ReplayOptions<'_>,
-    setup: &Setup,
-    board: &Board,
-    serial: &Serial,
-    out: &mut O,
-) -> Result<Agreement, Refusal>
-    ensures agrees { IfOk result (λ agreement. agreement ≡ Agreement.Agrees ↔ Replays board.now serial.now) }
-    ensures unsent { IfErr result (IsUnsent board.now.machine.memory setup.now.parts) }
+fn tell_object<O: Out>(rerun: Rerun<'_>, serial: &Serial, out: &mut O) -> Result<Agreement, Refusal>
+    ensures agrees { IfOk result
+        (λ agreement. agreement ≡ Agreement.Agrees ↔ Replays rerun.entry.board.now serial.now) }
+    ensures unsent { IfErr result (IsUnsent rerun.entry.board.now.machine.memory rerun.entry.setup.now.parts) }
     ensures told { IfOk result (λ agreement. Wrote (O.device out.old) (O.device out.new)
-        (agreement_object board.now.machine setup.now options.now agreement)) }
+        (agreement_object rerun.entry.board.now.machine rerun.entry.setup.now rerun.entry.options.now agreement)) }
 {
+    let board = rerun.board;
     let agreement = agreement_of(board, serial);
+    let subject = Subject {
+        machine: board.machine(),
+        parts: &rerun.setup.parts,
+        texts: rerun.options.machine.shows.as_slice(),
+    };
     put_replay(
-        alloc,
-        board.machine(),
-        &setup.parts,
-        options.machine.shows.as_slice(),
+        rerun.alloc,
+        subject,
         agreement.is_alike(),
         agreement.status(),
         out,

@@ -1,8 +1,7 @@
 -- The cores that have not stopped, and what a run came to by them.
-use Rattle.std.proofs.Common.{◌≡◌, ◌∙◌, ℕ, ◌+◌, Bool, true, false, not, List, Option, None, Some, [], ◌∷◌, ◌++◌, ap}
+use Rattle.std.proofs.Common.{◌≡◌, ◌∙◌, ℕ, ◌+◌, Bool, true, false, not, List, [], ◌∷◌, ◌++◌, ap}
 use Rattle.std.proofs.Common.{if◌then◌else◌, length, map-id, refl, sym, zero-add}
 use Rattle.std.proofs.lemmas.List.FromFn.{filter_of_map_range_with_len_more}
-use Rattle.std.specs.Io.KnownBytes.{Appends, Keeps}
 use Rattle.std.specs.List.{filter, list_all, range_with_len}
 use Rattle.std.specs.Prelude.{cond}
 use Rattle.tm_core.specs.Theorem.{ShownMachine as Machine}
@@ -34,11 +33,3 @@ filter_more p count =
     ap (filter p) (sym (map-id (range_with_len 0 (count + 1))))
     ∙ filter_of_map_range_with_len_more p (λ number. number) 0 count count (zero-add count)
     ∙ ap (λ l. filter p l ++ cond (p count) (count ∷ []) []) (map-id (range_with_len 0 count))
-
--- a text that was gathered, and then handed on
-pub kept_last : (begun ended last : Option (List ℕ)) (text : List ℕ) → Appends begun ended text → Keeps ended last →
-    Appends begun last text
-kept_last None ended last text k e = tt
-kept_last (Some xs) None last text k e = absurd k
-kept_last (Some xs) (Some ys) None text k e = absurd e
-kept_last (Some xs) (Some ys) (Some zs) text k e = e ∙ k

@@ -7,17 +7,11 @@ use Rattle.elide_args.specs.declared.subcommand.RunOptions.{RunOptions}
 use Rattle.elide_json.specs.Objects.{run_members}
 use Rattle.elide_json.specs.Outcomes.{outcomes_value, run_back, run_value}
 use Rattle.elide_object.specs.Object.{object_text}
-use Rattle.elide_setup.specs.Recorded.{IsRecorded}
-use Rattle.elide_setup.specs.Rounds.{IsAskedOut}
-use Rattle.elide_setup.specs.Runs.{IsRunOf}
-use Rattle.elide_setup.specs.Schedules.{AreAsked, picks_made, schedule_asked}
-use Rattle.elide_setup.specs.Setup.{IsAsked}
 use Rattle.tm_core.specs.Theorem.{ShownMachine as Machine}
 use Rattle.elide_setup.specs.declared.machine.Setup.{Setup}
 use Rattle.serde_json.specs.Data.{Members}
-use Rattle.tm_model.specs.declared.outcome.Outcome.{Outcome}
-use Rattle.tm_model.specs.declared.outcome.Pick.{Pick}
 use Rattle.elide_run.specs.Halting.{asked_ending, is_stopped}
+use Rattle.elide_run.specs.Printed.{IsRunOfOptions}
 use Rattle.elide_run.specs.declared.halting.Ending.{Ending}
 use Rattle.elide_run.specs.declared.halting.Ending.TheVariants.{AsAsked, RunsOn}
 
@@ -51,20 +45,13 @@ pub record IsEnd (options : RunOptions) (setup : Setup) (machine : Machine) (end
   pub came_to : ending ≡ asked_ending options.expects_halt machine
   pub wrote : Appends before after (run_back options.traces (end_members options setup machine ending))
 
--- the machine is that of the options and of what FILE's content is read as, run by the rules along their schedule, and
--- the object of its steps and of its state was written; the file that the schedule is recorded in is left with that of
--- these steps
+-- the object of a run's steps and of the state of its machine was written
 pub record IsObjectPrinted (content left : List ℕ → Option (List ℕ)) (options : RunOptions) (ending : Ending)
     (before after : Option (List ℕ)) : Type 0 where
   pub setup : Setup
-  pub asked : IsAsked (content options.machine.file.now) options.machine setup
-  pub made : List (Pick × Outcome)
-  pub steps : AreAsked content options.schedule (picks_made made)
   pub machine : Machine
-  pub ran : IsRunOf setup.program setup.limits made machine
-  pub out : IsAskedOut options.schedule (length setup.program.entries) made
-  pub recorded : IsRecorded left options.record (schedule_asked options.schedule made)
+  pub run : IsRunOfOptions content left options setup machine
   pub came_to : ending ≡ asked_ending options.expects_halt machine
   pub wrote :
       Appends before after
-      (object_text (run_value (outcomes_value options.traces made) (end_members options setup machine ending)))
+      (object_text (run_value (outcomes_value options.traces run.made) (end_members options setup machine ending)))

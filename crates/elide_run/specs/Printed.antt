@@ -52,18 +52,22 @@ pub record IsStepped (left : List ℕ → Option (List ℕ)) (options : RunOptio
   pub out : IsOut opened.course (length opened.setup.program.entries) made
 
 -- the machine is that of the options and of what FILE's content is read as, run by the rules along their schedule, and
--- the lines of its steps were written; those that tell instructions, or why transactions aborted, are any. The file
--- that the schedule is recorded in is left with that of these steps
-pub record IsRunAsAsked (content left : List ℕ → Option (List ℕ)) (options : RunOptions) (setup : Setup)
-    (machine : Machine) (before after : Option (List ℕ)) : Type 0 where
+-- the file that the schedule is recorded in is left with that of these steps
+pub record IsRunOfOptions (content left : List ℕ → Option (List ℕ)) (options : RunOptions) (setup : Setup)
+    (machine : Machine) : Type 0 where
   pub asked : IsAsked (content options.machine.file.now) options.machine setup
   pub made : List (Pick × Outcome)
   pub steps : AreAsked content options.schedule (picks_made made)
   pub ran : IsRunOf setup.program setup.limits made machine
   pub out : IsAskedOut options.schedule (length setup.program.entries) made
   pub recorded : IsRecorded left options.record (schedule_asked options.schedule made)
+
+-- it is so, and the lines of its steps were written; those that tell instructions, or why transactions aborted, are any
+pub record IsRunAsAsked (content left : List ℕ → Option (List ℕ)) (options : RunOptions) (setup : Setup)
+    (machine : Machine) (before after : Option (List ℕ)) : Type 0 where
+  pub run : IsRunOfOptions content left options setup machine
   pub lines : List ℕ
-  pub traced : options.explains ≡ false → options.shows_code ≡ false → lines ≡ trace_text options.traces made
+  pub traced : options.explains ≡ false → options.shows_code ≡ false → lines ≡ trace_text options.traces run.made
   pub wrote : Appends before after lines
 
 -- the state and what is asked for of memory was written, and below it, where it is expected that all cores stop, the

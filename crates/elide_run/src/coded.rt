@@ -1,7 +1,7 @@
 //! Runs whose outcomes are told with their instructions: `--trace --code`, with `--why` or without.
 //!
-//! [`steps_coded`] and [`steps_coded_explained`] make the steps by [`stepped`]. What a step did is known by the machine
-//! before it and behind it. With reasons, the line of `elide_why` is made in memory, so that the reason can stand
+//! [`trace_code`] and [`explain_code`] make the steps by [`make_steps`]. What a step did is known by the machine before
+//! it and behind it. With reasons, the line of `elide_why` is made in memory, so that the reason can stand
 //! behind the instruction. The state below the outcomes is `schedule`'s.
 
 ghost use Rattle.std.specs.Prelude.{◌≡◌, ℕ, IfErr, IfOk, List};
@@ -10,11 +10,11 @@ ghost use Rattle.elide_setup.specs.Refused.{IsNoCore};
 ghost use Rattle.elide_run.specs.Printed.{HasStepped};
 ghost use Rattle.elide_run.specs.Refused.{IsNoRun};
 
-use crate::explained::{StepTeller, stepped};
-use elide_args::RunOptions;
+use crate::explained::{StepTeller, make_steps};
+use crate::opening::Job;
 use elide_device::{Gathered, Progress};
 use elide_program::Paths;
-use elide_setup::{Fault, Opened, Refusal, StepMaker};
+use elide_setup::{Fault, Refusal, StepMaker};
 use elide_why::Teller;
 use ia_image::Program;
 use std::alloc::{AllocError, Global};
@@ -26,50 +26,47 @@ use tm_model::{Outcome, Pick};
 use tm_trace::{Before, Deed, write_deed, write_front, write_step};
 
 /// The machine behind a run's steps, of which the line of each outcome is printed with its instruction.
-pub fn steps_coded<P: Paths, O: Out + Drop, G: Progress>(
-    alloc: Global,
-    opened: &Opened,
-    path: Option<&str>,
+pub fn trace_code<P: Paths, O: Out + Drop, G: Progress>(
+    job: Job<'_>,
     paths: &mut P,
     page: Gathered<O>,
     progress: &mut G,
 ) -> Result<(Machine, Gathered<O>), Refusal>
-    ensures refused { IfErr result (IsNoRun opened.now.setup opened.now.course path.entry) }
-    ensures made { IfOk result (λ r. HasStepped (P.content paths.new) opened.now path.entry
+    ensures refused { IfErr result (IsNoRun job.entry.opened.now.setup job.entry.opened.now.course job.entry.path) }
+    ensures made { IfOk result (λ r. HasStepped (P.content paths.new) job.entry.opened.now job.entry.path
         (⟦<Gathered<O> as Out>⟧.device page) r.0 (⟦<Gathered<O> as Out>⟧.device r.1)) }
 {
     let teller = CodeTeller {
-        program: &opened.setup.program,
-        labels: opened.places.labels(),
+        program: &job.opened.setup.program,
+        labels: job.opened.places.labels(),
     };
-    stepped(alloc, teller, opened, path, paths, page, progress)
+    make_steps(job, teller, paths, page, progress)
 }
 
-/// What [`steps_coded`] does, with the reasons of the aborts, each behind its instruction. `names` says whether code
+/// What [`trace_code`] does, with the reasons of the aborts, each behind its instruction. `names` says whether code
 /// where the subset ends is named.
-pub fn steps_coded_explained<P: Paths, O: Out + Drop, G: Progress>(
-    alloc: Global,
-    options: &RunOptions<'_>,
+pub fn explain_code<P: Paths, O: Out + Drop, G: Progress>(
+    job: Job<'_>,
     names: bool,
-    opened: &Opened,
-    path: Option<&str>,
     paths: &mut P,
     page: Gathered<O>,
     progress: &mut G,
 ) -> Result<(Machine, Gathered<O>), Refusal>
-    ensures refused { IfErr result (IsNoRun opened.now.setup opened.now.course path.entry) }
-    ensures made { IfOk result (λ r. HasStepped (P.content paths.new) opened.now path.entry
+    ensures refused { IfErr result (IsNoRun job.entry.opened.now.setup job.entry.opened.now.course job.entry.path) }
+    ensures made { IfOk result (λ r. HasStepped (P.content paths.new) job.entry.opened.now job.entry.path
         (⟦<Gathered<O> as Out>⟧.device page) r.0 (⟦<Gathered<O> as Out>⟧.device r.1)) }
 {
+    let opened = job.opened;
+    let options = job.options;
     let program = &opened.setup.program;
     let teller = Teller::new(program, options.machine.file, &opened.places, true);
     let teller = ReasonTeller {
-        alloc,
+        alloc: job.alloc,
         program,
         labels: opened.places.labels(),
         teller: teller.naming(names),
     };
-    stepped(alloc, teller, opened, path, paths, page, progress)
+    make_steps(job, teller, paths, page, progress)
 }
 
 // Tells each outcome with its instruction.

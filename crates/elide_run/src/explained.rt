@@ -1,7 +1,7 @@
 //! Runs that tell why transactions abort, and the walk of all runs that tell more than outcomes.
 //!
-//! [`stepped`] makes the machine, and each step by a [`StepTeller`], which writes its line at once. A line that is not
-//! written ends the run. As an object there are no reasons: `object` refuses them.
+//! [`make_steps`] makes the machine, and each step by a [`StepTeller`], which writes its line at once. A line that is
+//! not written ends the run. As an object there are no reasons: `object` refuses them.
 
 ghost use Rattle.std.specs.Prelude.{◌≡◌, ℕ, IfErr, IfOk, List};
 ghost use Rattle.text_out.specs.Writing.{Wrote};
@@ -9,33 +9,30 @@ ghost use Rattle.elide_setup.specs.Runs.{AreMachineSteps, IsMachineStep};
 ghost use Rattle.elide_run.specs.Printed.{HasStepped};
 ghost use Rattle.elide_run.specs.Refused.{IsNoRun, IsUnexplained};
 
-use crate::opening::machine_of;
-use elide_args::RunOptions;
+use crate::opening::{Job, machine_of};
 use elide_device::{Gathered, Progress};
 use elide_program::Paths;
-use elide_setup::{Opened, Refusal, StepMaker};
+use elide_setup::{Refusal, StepMaker};
 use elide_why::Teller;
-use std::alloc::Global;
 use text_out::Out;
 use tm_core::Machine;
 use tm_model::{Outcome, Pick};
 
 /// The machine behind a run's steps, of which the line of each abort is printed with its reason, and the other outcomes
 /// where they are asked for. `names` says whether code where the subset ends is named.
-pub fn steps_explained<P: Paths, O: Out + Drop, G: Progress>(
-    alloc: Global,
-    options: &RunOptions<'_>,
+pub fn explain_steps<P: Paths, O: Out + Drop, G: Progress>(
+    job: Job<'_>,
     names: bool,
-    opened: &Opened,
-    path: Option<&str>,
     paths: &mut P,
     page: Gathered<O>,
     progress: &mut G,
 ) -> Result<(Machine, Gathered<O>), Refusal>
-    ensures refused { IfErr result (IsNoRun opened.now.setup opened.now.course path.entry) }
-    ensures made { IfOk result (λ r. HasStepped (P.content paths.new) opened.now path.entry
+    ensures refused { IfErr result (IsNoRun job.entry.opened.now.setup job.entry.opened.now.course job.entry.path) }
+    ensures made { IfOk result (λ r. HasStepped (P.content paths.new) job.entry.opened.now job.entry.path
         (⟦<Gathered<O> as Out>⟧.device page) r.0 (⟦<Gathered<O> as Out>⟧.device r.1)) }
 {
+    let options = job.options;
+    let opened = job.opened;
     let teller = Teller::new(
         &opened.setup.program,
         options.machine.file,
@@ -43,23 +40,27 @@ pub fn steps_explained<P: Paths, O: Out + Drop, G: Progress>(
         options.traces,
     );
     let teller = teller.naming(names);
-    stepped(alloc, teller, opened, path, paths, page, progress)
+    make_steps(job, teller, paths, page, progress)
 }
 
 /// The machine behind a run's steps, which this teller tells.
-pub fn stepped<T: StepTeller + Drop, P: Paths, O: Out + Drop, G: Progress>(
-    alloc: Global,
+pub fn make_steps<T: StepTeller + Drop, P: Paths, O: Out + Drop, G: Progress>(
+    job: Job<'_>,
     teller: T,
-    opened: &Opened,
-    path: Option<&str>,
     paths: &mut P,
     page: Gathered<O>,
     progress: &mut G,
 ) -> Result<(Machine, Gathered<O>), Refusal>
-    ensures refused { IfErr result (IsNoRun opened.now.setup opened.now.course path.entry) }
-    ensures made { IfOk result (λ r. HasStepped (P.content paths.new) opened.now path.entry
+    ensures refused { IfErr result (IsNoRun job.entry.opened.now.setup job.entry.opened.now.course job.entry.path) }
+    ensures made { IfOk result (λ r. HasStepped (P.content paths.new) job.entry.opened.now job.entry.path
         (⟦<Gathered<O> as Out>⟧.device page) r.0 (⟦<Gathered<O> as Out>⟧.device r.1)) }
 {
+    let Job {
+        alloc,
+        opened,
+        path,
+        ..
+    } = job;
     let course = &opened.course;
     let machine = machine_of(alloc, &opened.setup, course)?;
     let cores = machine.cores();

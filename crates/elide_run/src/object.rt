@@ -25,13 +25,13 @@ ghost use Rattle.elide_run.specs.Object.{running_cores};
 ghost use Rattle.elide_run.specs.Refused.{IsNoRun, IsRefused, IsUnexplained};
 
 use crate::halting::{Ending, has_stopped};
-use crate::opening::machine_of;
+use crate::opening::{Job, machine_of};
 use arrayvec::ArrayVec;
 use elide_args::RunOptions;
 use elide_device::{Gathered, Progress};
-use elide_json::{put_back, put_front, put_outcome};
+use elide_json::{Subject, put_back, put_front, put_outcome};
 use elide_program::Paths;
-use elide_setup::{Course, Fault, Opened, Refusal, Setup, StepMaker, record_path};
+use elide_setup::{Fault, Opened, Refusal, Setup, StepMaker, record_path};
 use std::alloc::Global;
 use text_out::Out;
 use tm_core::{Machine, RunFault};
@@ -61,18 +61,15 @@ pub fn run_object<P: Paths, O: Out + Drop, G: Progress>(
     }
     let path = record_path(options.record, options.machine.file, paths)?;
     let opened = Opened::read(alloc, &options.machine, &options.schedule, false, paths)?;
-    let Opened { setup, course, .. } = opened;
     let page = Gathered::new(out);
-    let made = stepped(
+    let job = Job {
         alloc,
-        options.traces,
-        &setup,
-        &course,
+        options: &*options,
+        opened: &opened,
         path,
-        paths,
-        page,
-        progress,
-    );
+    };
+    let made = make_steps(job, paths, page, progress);
+    let Opened { setup, course, .. } = opened;
     drop(course);
     let (machine, page) = made?;
     let told = tell_end(alloc, &machine, &setup, options, page);
@@ -82,27 +79,33 @@ pub fn run_object<P: Paths, O: Out + Drop, G: Progress>(
 }
 
 // The machine behind a run's steps, whose outcomes are written where they are asked for.
-fn stepped<P: Paths, O: Out + Drop, G: Progress>(
-    alloc: Global,
-    traces: bool,
-    setup: &Setup,
-    course: &Course,
-    path: Option<&str>,
+fn make_steps<P: Paths, O: Out + Drop, G: Progress>(
+    job: Job<'_>,
     paths: &mut P,
     page: Gathered<O>,
     progress: &mut G,
 ) -> Result<(Machine, Gathered<O>), Refusal>
-    ensures refused { IfErr result (IsNoRun setup.now course.now path.entry) }
-    ensures made { IfOk result (λ r. (made : List (Pick × Outcome)) × AreOf course.now (picks_made made)
-        × IsRunOf setup.now.program setup.now.limits made r.0
+    ensures refused { IfErr result (IsNoRun job.entry.opened.now.setup job.entry.opened.now.course job.entry.path) }
+    ensures made { IfOk result (λ r. (made : List (Pick × Outcome))
+        × AreOf job.entry.opened.now.course (picks_made made)
+        × IsRunOf job.entry.opened.now.setup.program job.entry.opened.now.setup.limits made r.0
         × Wrote (⟦<Gathered<O> as Out>⟧.device page) (⟦<Gathered<O> as Out>⟧.device r.1)
-        (run_front traces ++ run_rows traces made)
-        × IsRecorded (P.content paths.new) path.entry (schedule_made course.now (picks_told made))
-        × IsOut course.now (length setup.now.program.entries) made) }
+        (run_front job.entry.options.now.traces ++ run_rows job.entry.options.now.traces made)
+        × IsRecorded (P.content paths.new) job.entry.path
+        (schedule_made job.entry.opened.now.course (picks_told made))
+        × IsOut job.entry.opened.now.course (length job.entry.opened.now.setup.program.entries) made) }
 {
-    let mut machine = machine_of(alloc, setup, course)?;
+    let Job {
+        alloc,
+        options,
+        opened,
+        path,
+    } = job;
+    let traces = options.traces;
+    let course = &opened.course;
+    let mut machine = machine_of(alloc, &opened.setup, course)?;
     let cores = machine.cores();
-    let page = begun(traces, page)?;
+    let page = begin(traces, page)?;
     if !traces {
         course.walk_recorded(alloc, cores, path, &mut machine, paths, progress)?;
         return Ok((machine, page));
@@ -119,7 +122,7 @@ fn stepped<P: Paths, O: Out + Drop, G: Progress>(
 }
 
 // What stands before the outcomes is written.
-fn begun<O: Out + Drop>(traces: bool, page: Gathered<O>) -> Result<Gathered<O>, Refusal>
+fn begin<O: Out + Drop>(traces: bool, page: Gathered<O>) -> Result<Gathered<O>, Refusal>
     ensures wrote { IfOk result
         (λ begun. Wrote (⟦<Gathered<O> as Out>⟧.device page) (⟦<Gathered<O> as Out>⟧.device begun)
         (run_front traces)) }
@@ -184,43 +187,43 @@ fn tell_end<O: Out + Drop>(
     let mut page = page;
     let cores = running_of(machine);
     let ending = ending_of_cores(options.expects_halt, cores.as_slice());
-    put_end(
-        alloc,
+    let end = End {
         machine,
         setup,
         options,
-        cores.as_slice(),
-        status_of(ending),
-        &mut page,
-    )?;
+        cores: cores.as_slice(),
+        status: status_of(ending),
+    };
+    put_end(alloc, end, &mut page)?;
     let out = page.finish()?;
     Ok((ending, out))
 }
 
-fn put_end<O: Out>(
-    alloc: Global,
-    machine: &Machine,
-    setup: &Setup,
-    options: &RunOptions<'_>,
-    cores: &[u32],
+// How a run ended.
+#[derive(Clone, Copy)]
+struct End<'a> {
+    machine: &'a Machine,
+    setup: &'a Setup,
+    options: &'a RunOptions<'a>,
+    // The cores that have not stopped.
+    cores: &'a [u32],
     status: u8,
-    out: &mut O,
-) -> Result<(), Refusal>
-    ensures wrote { OnOk result (Wrote (O.device out.old) (O.device out.new) (run_back options.now.traces
-        (run_members machine.now setup.now.parts options.now.machine.shows.items
-        (asked_running options.now.expects_halt cores.now) status))) }
-    ensures unsent { IfErr result (IsUnsent machine.now.memory setup.now.parts) }
+}
+
+fn put_end<O: Out>(alloc: Global, end: End<'_>, out: &mut O) -> Result<(), Refusal>
+    ensures wrote { OnOk result (Wrote (O.device out.old) (O.device out.new) (run_back end.entry.options.now.traces
+        (run_members end.entry.machine.now end.entry.setup.now.parts end.entry.options.now.machine.shows.items
+        (asked_running end.entry.options.now.expects_halt end.entry.cores.now) end.entry.status))) }
+    ensures unsent { IfErr result (IsUnsent end.entry.machine.now.memory end.entry.setup.now.parts) }
 {
-    put_back(
-        alloc,
-        options.traces,
-        machine,
-        &setup.parts,
-        options.machine.shows.as_slice(),
-        asked_cores(options.expects_halt, cores),
-        status,
-        out,
-    )
+    let options = end.options;
+    let subject = Subject {
+        machine: end.machine,
+        parts: &end.setup.parts,
+        texts: options.machine.shows.as_slice(),
+    };
+    let running = asked_cores(options.expects_halt, end.cores);
+    put_back(alloc, subject, options.traces, running, end.status, out)
 }
 
 // Those that are told, where they are asked for.

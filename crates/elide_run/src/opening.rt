@@ -9,9 +9,23 @@ ghost use Rattle.elide_setup.specs.Runs.{IsRunOf};
 ghost use Rattle.elide_setup.specs.Schedules.{listed_in};
 ghost use Rattle.tm_model.specs.declared.outcome.Pick.{Pick};
 
-use elide_setup::{Course, Refusal, Setup, new_machine, shown_memory};
+use elide_args::RunOptions;
+use elide_setup::{Course, Opened, Refusal, Setup, new_machine, shown_memory};
 use std::alloc::Global;
 use tm_core::Machine;
+
+/// A run that is to be made: what each step of the way reads.
+#[derive(Clone, Copy)]
+pub struct Job<'a> {
+    /// For the machine and for texts.
+    pub alloc: Global,
+    /// What is asked for.
+    pub options: &'a RunOptions<'a>,
+    /// What was read by the options.
+    pub opened: &'a Opened,
+    /// Where the schedule that came about is written.
+    pub path: Option<&'a str>,
+}
 
 /// The machine of a program before its first step, where the schedule names its cores alone, and what is to be printed
 /// of memory is there.

@@ -19,11 +19,11 @@ ghost use Rattle.elide_run.specs.Printed.{IsPrinted, IsRunAsAsked, IsStepped, Is
 ghost use Rattle.elide_run.specs.Refused.{HasNotAll, IsNoRun, IsRefused};
 ghost use Rattle.elide_why.specs.Refused.{IsUntoldStep};
 
-use crate::coded::{steps_coded, steps_coded_explained};
-use crate::explained::steps_explained;
+use crate::coded::{explain_code, trace_code};
+use crate::explained::explain_steps;
 use crate::halting::{Ending, ending_of};
 use crate::object::run_object;
-use crate::opening::machine_of;
+use crate::opening::{Job, machine_of};
 use elide_args::RunOptions;
 use elide_device::{Gathered, Progress};
 use elide_program::Paths;
@@ -108,7 +108,13 @@ fn run_steps<P: Paths, O: Out + Drop, G: Progress>(
         options.explains || options.shows_code,
         paths,
     )?;
-    let made = steps_told(alloc, options, names, &opened, path, paths, page, progress);
+    let job = Job {
+        alloc,
+        options: &*options,
+        opened: &opened,
+        path,
+    };
+    let made = tell_steps(job, names, paths, page, progress);
     let Opened {
         setup,
         course,
@@ -121,49 +127,49 @@ fn run_steps<P: Paths, O: Out + Drop, G: Progress>(
 }
 
 // The machine behind a run's steps, each of which is told as it is asked for.
-fn steps_told<P: Paths, O: Out + Drop, G: Progress>(
-    alloc: Global,
-    options: &RunOptions<'_>,
+fn tell_steps<P: Paths, O: Out + Drop, G: Progress>(
+    job: Job<'_>,
     names: bool,
-    opened: &Opened,
-    path: Option<&str>,
     paths: &mut P,
     page: Gathered<O>,
     progress: &mut G,
 ) -> Result<(Machine, Gathered<O>), Refusal>
-    ensures refused { IfErr result (IsNoRun opened.now.setup opened.now.course path.entry) }
-    ensures made { IfOk result (λ r. IsStepped (P.content paths.new) options.now opened.now path.entry
-        (⟦<Gathered<O> as Out>⟧.device page) r.0 (⟦<Gathered<O> as Out>⟧.device r.1)) }
+    ensures refused { IfErr result (IsNoRun job.entry.opened.now.setup job.entry.opened.now.course job.entry.path) }
+    ensures made { IfOk result (λ r. IsStepped (P.content paths.new) job.entry.options.now job.entry.opened.now
+        job.entry.path (⟦<Gathered<O> as Out>⟧.device page) r.0 (⟦<Gathered<O> as Out>⟧.device r.1)) }
 {
-    match (options.explains, options.shows_code) {
-        (true, true) => {
-            steps_coded_explained(alloc, options, names, opened, path, paths, page, progress)
-        }
-        (true, false) => steps_explained(
-            alloc, options, names, opened, path, paths, page, progress,
-        ),
-        (false, true) => steps_coded(alloc, opened, path, paths, page, progress),
-        (false, false) => steps_traced(alloc, options.traces, opened, path, paths, page, progress),
+    match (job.options.explains, job.options.shows_code) {
+        (true, true) => explain_code(job, names, paths, page, progress),
+        (true, false) => explain_steps(job, names, paths, page, progress),
+        (false, true) => trace_code(job, paths, page, progress),
+        (false, false) => trace_steps(job, paths, page, progress),
     }
 }
 
 // The machine behind a run's steps, whose outcomes are printed where they are asked for.
-fn steps_traced<P: Paths, O: Out + Drop, G: Progress>(
-    alloc: Global,
-    traces: bool,
-    opened: &Opened,
-    path: Option<&str>,
+fn trace_steps<P: Paths, O: Out + Drop, G: Progress>(
+    job: Job<'_>,
     paths: &mut P,
     page: Gathered<O>,
     progress: &mut G,
 ) -> Result<(Machine, Gathered<O>), Refusal>
-    ensures refused { IfErr result (IsNoRun opened.now.setup opened.now.course path.entry) }
-    ensures made { IfOk result (λ r. (made : List (Pick × Outcome)) × AreOf opened.now.course (picks_made made)
-        × IsRunOf opened.now.setup.program opened.now.setup.limits made r.0
-        × Wrote (⟦<Gathered<O> as Out>⟧.device page) (⟦<Gathered<O> as Out>⟧.device r.1) (trace_text traces made)
-        × IsRecorded (P.content paths.new) path.entry (schedule_made opened.now.course (picks_told made))
-        × IsOut opened.now.course (length opened.now.setup.program.entries) made) }
+    ensures refused { IfErr result (IsNoRun job.entry.opened.now.setup job.entry.opened.now.course job.entry.path) }
+    ensures made { IfOk result (λ r. (made : List (Pick × Outcome))
+        × AreOf job.entry.opened.now.course (picks_made made)
+        × IsRunOf job.entry.opened.now.setup.program job.entry.opened.now.setup.limits made r.0
+        × Wrote (⟦<Gathered<O> as Out>⟧.device page) (⟦<Gathered<O> as Out>⟧.device r.1)
+        (trace_text job.entry.options.now.traces made)
+        × IsRecorded (P.content paths.new) job.entry.path
+        (schedule_made job.entry.opened.now.course (picks_told made))
+        × IsOut job.entry.opened.now.course (length job.entry.opened.now.setup.program.entries) made) }
 {
+    let Job {
+        alloc,
+        options,
+        opened,
+        path,
+    } = job;
+    let traces = options.traces;
     let course = &opened.course;
     let mut machine = machine_of(alloc, &opened.setup, course)?;
     let cores = machine.cores();

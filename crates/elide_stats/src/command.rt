@@ -21,7 +21,7 @@ ghost use Rattle.tm_stats.specs.Counts.{AreCounts};
 ghost use Rattle.elide_stats.specs.Refused.{AreOfOptions, IsNoCount, IsNotCounted, IsRefused};
 
 use crate::counting::Counting;
-use crate::told::{CountedRun, tell_counting};
+use crate::told::{CountedRun, Form, tell_counting};
 use elide_args::StatsOptions;
 use elide_device::Progress;
 use elide_program::{Paths, ProgramFile, Settings, read_file};
@@ -33,10 +33,20 @@ use tm_stats::AbortCause;
 // What is asked for beside the program and its schedule.
 #[derive(Clone, Copy)]
 struct Asked<'a> {
+    alloc: Global,
     options: &'a StatsOptions<'a>,
     settings: Settings<'a>,
     // Where the schedule that came about is written.
     path: Option<&'a str>,
+}
+
+// A program that is to run, and its schedule.
+#[derive(Clone, Copy)]
+struct Ready<'a> {
+    asked: &'a Asked<'a>,
+    file: &'a ProgramFile<'a>,
+    setup: &'a Setup,
+    course: &'a Course,
 }
 
 /// Runs a schedule of core steps, writes the schedule that came about where there is a path, and prints what its
@@ -56,17 +66,17 @@ pub fn stats<P: Paths, O: Out, G: Progress>(
     let settings = Settings::read(&options.machine)?;
     let plan = Plan::read(alloc, &options.schedule)?;
     let asked = Asked {
+        alloc,
         options,
         settings,
         path,
     };
-    stats_of_path(alloc, plan, &asked, paths, out, progress)
+    stats_of_path(plan, &asked, paths, out, progress)
 }
 
 // What [`stats`] does once the options are read. What is made in one of these functions is lent to the next, so that
 // each has little to drop.
 fn stats_of_path<P: Paths, O: Out, G: Progress>(
-    alloc: Global,
     plan: Plan<'_>,
     asked: &Asked<'_>,
     paths: &mut P,
@@ -84,12 +94,11 @@ fn stats_of_path<P: Paths, O: Out, G: Progress>(
 {
     let options = asked.options;
     let text = read_file(options.machine.file, paths)?;
-    stats_of_text(alloc, text.as_slice(), plan, asked, paths, out, progress)
+    stats_of_text(text.as_slice(), plan, asked, paths, out, progress)
 }
 
 // What [`stats_of_path`] does once FILE is read, of its text.
 fn stats_of_text<P: Paths, O: Out, G: Progress>(
-    alloc: Global,
     text: &[u8],
     plan: Plan<'_>,
     asked: &Asked<'_>,
@@ -105,15 +114,14 @@ fn stats_of_text<P: Paths, O: Out, G: Progress>(
         → Gives (content asked.now.options.now.machine.file.now) most_bytes text.now
         → IfErr result (IsNotCounted content asked.now.options.now) }
 {
-    let file = ProgramFile::read(alloc, text)?;
-    let told = stats_of_file(alloc, &file, plan, asked, paths, out, progress);
+    let file = ProgramFile::read(asked.alloc, text)?;
+    let told = stats_of_file(&file, plan, asked, paths, out, progress);
     drop(file);
     told
 }
 
 // What [`stats_of_text`] does once the text is read as a program.
 fn stats_of_file<P: Paths, O: Out, G: Progress>(
-    alloc: Global,
     file: &ProgramFile<'_>,
     plan: Plan<'_>,
     asked: &Asked<'_>,
@@ -129,37 +137,32 @@ fn stats_of_file<P: Paths, O: Out, G: Progress>(
         → IsRead (content asked.now.options.now.machine.file.now) file.now
         → IfErr result (IsNotCounted content asked.now.options.now) }
 {
-    let (setup, course) = planned(alloc, &asked.settings, plan, file, paths)?;
-    stats_of_setup(alloc, &setup, &course, file, asked, paths, out, progress)
+    let (setup, course) = planned(asked.alloc, &asked.settings, plan, file, paths)?;
+    let ready = Ready {
+        asked,
+        file,
+        setup: &setup,
+        course: &course,
+    };
+    stats_of_setup(ready, paths, out, progress)
 }
 
 // What [`stats_of_file`] does once the program is loaded, with its schedule.
 fn stats_of_setup<P: Paths, O: Out, G: Progress>(
-    alloc: Global,
-    setup: &Setup,
-    course: &Course,
-    file: &ProgramFile<'_>,
-    asked: &Asked<'_>,
+    ready: Ready<'_>,
     paths: &mut P,
     out: &mut O,
     progress: &mut G,
 ) -> Result<(), Refusal>
-    ensures ran { OnOk result (HasRunCourse (P.content paths.new) setup.now course.now asked.now.path) }
-    ensures refused { IfErr result (IsNoCount setup.now course.now asked.now.path) }
+    ensures ran { OnOk result (HasRunCourse (P.content paths.new) ready.entry.setup.now ready.entry.course.now
+        ready.entry.asked.now.path) }
+    ensures refused { IfErr result (IsNoCount ready.entry.setup.now ready.entry.course.now
+        ready.entry.asked.now.path) }
 {
-    let machine = new_machine(alloc, setup)?;
+    let alloc = ready.asked.alloc;
+    let machine = new_machine(alloc, ready.setup)?;
     let mut counting = Counting::new(alloc, machine)?;
-    let told = stats_of_course(
-        alloc,
-        setup,
-        course,
-        &mut counting,
-        file,
-        asked,
-        paths,
-        out,
-        progress,
-    );
+    let told = stats_of_course(ready, &mut counting, paths, out, progress);
     // Dropped by a call: what a machine and its counts own is much.
     drop(counting);
     told
@@ -167,25 +170,33 @@ fn stats_of_setup<P: Paths, O: Out, G: Progress>(
 
 // Runs the schedule, and prints the counts.
 fn stats_of_course<P: Paths, O: Out, G: Progress>(
-    alloc: Global,
-    setup: &Setup,
-    course: &Course,
+    ready: Ready<'_>,
     counting: &mut Counting,
-    file: &ProgramFile<'_>,
-    asked: &Asked<'_>,
     paths: &mut P,
     out: &mut O,
     progress: &mut G,
 ) -> Result<(), Refusal>
-    requires first { IsRunOf setup.now.program setup.now.limits [] counting.old.machine }
-    requires cores { length counting.old.machine.views ≡ length setup.now.program.entries }
+    requires first { IsRunOf ready.setup.now.program ready.setup.now.limits [] counting.old.machine }
+    requires cores { length counting.old.machine.views ≡ length ready.setup.now.program.entries }
     requires none { AreCounts ⟦<AbortCause as PartialEq>⟧.eq counting.old.counts [] }
-    ensures refused { IfErr result (IsNoCount setup.now course.now asked.now.path) }
+    ensures refused { IfErr result (IsNoCount ready.entry.setup.now ready.entry.course.now
+        ready.entry.asked.now.path) }
     ensures ran { OnOk result ((made : List (Pick × Outcome)) × (after : ShownMachine)
-        × AreOf course.now (picks_made made) × Leads AreMachineSteps counting.old.machine made after
-        × IsRecorded (P.content paths.new) asked.now.path (schedule_made course.now (picks_told made))) }
+        × AreOf ready.entry.course.now (picks_made made) × Leads AreMachineSteps counting.old.machine made after
+        × IsRecorded (P.content paths.new) ready.entry.asked.now.path
+        (schedule_made ready.entry.course.now (picks_told made))) }
 {
-    counting.run_course(alloc, course, asked.path, paths, progress)?;
-    let run = CountedRun::Planned(setup, course);
-    tell_counting(alloc, run, counting, file, asked.options.is_json, out)
+    let asked = ready.asked;
+    counting.run_course(asked.alloc, ready.course, asked.path, paths, progress)?;
+    let form = Form {
+        alloc: asked.alloc,
+        file: ready.file,
+        is_json: asked.options.is_json,
+    };
+    tell_counting(
+        form,
+        CountedRun::Planned(ready.setup, ready.course),
+        counting,
+        out,
+    )
 }

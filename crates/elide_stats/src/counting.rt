@@ -56,7 +56,7 @@ impl StepMaker for Counting {
         let hits = Hits::before(&self.machine, core);
         let outcome = self.machine.make_step(pick)?;
         count_hits(&mut self.conflicts, &mut self.bytes, core, &hits, outcome)?;
-        match self.counts.told(asked.step(core, outcome)) {
+        match self.counts.note(asked.step(core, outcome)) {
             Ok(()) => Ok(outcome),
             Err(_) => Err(no_memory()),
         }
@@ -162,12 +162,12 @@ fn count_hits(
     for (victim, conflict) in hits.conflicts_by(outcome) {
         let mut conflict = *conflict;
         conflict.is_apart = bytes.is_apart(core, step, *victim, conflict.line);
-        if conflicts.told(conflict).is_err() {
+        if conflicts.note(conflict).is_err() {
             return Err(no_memory());
         }
     }
     // Behind the questions above, which are of the bytes before this step.
-    match bytes.told(core, step) {
+    match bytes.record(core, step) {
         Ok(()) => Ok(()),
         Err(_) => Err(no_memory()),
     }

@@ -104,9 +104,9 @@ impl CoreBytes {
     }
 
     /// Tells a step of a core. Where there is no memory the bytes stay as they were.
-    pub fn told(&mut self, core: u8, step: ByteStep) -> Result<(), AllocError> {
+    pub fn record(&mut self, core: u8, step: ByteStep) -> Result<(), AllocError> {
         match self.cores.get_mut(usize::from(core)) {
-            Some(own) => own.told(step),
+            Some(own) => own.note(step),
             None => Ok(()),
         }
     }

@@ -34,13 +34,22 @@ pub enum CountedRun<'a> {
     Made(&'a Board),
 }
 
-/// Prints what the transactions of a run of the program of this file came to.
+/// In which form counts are told.
+#[derive(Clone, Copy)]
+pub struct Form<'a> {
+    /// For texts.
+    pub alloc: Global,
+    /// The file of the program, for its labels.
+    pub file: &'a ProgramFile<'a>,
+    /// Whether as JSON, and not in columns.
+    pub is_json: bool,
+}
+
+/// Prints what the transactions of a run of the program of the form's file came to.
 pub fn tell_counting<O: Out>(
-    alloc: Global,
+    form: Form<'_>,
     run: CountedRun<'_>,
     counting: &mut Counting,
-    file: &ProgramFile<'_>,
-    is_json: bool,
     out: &mut O,
 ) -> Result<(), Refusal>
     requires { HasCounted ⟦<AbortCause as PartialEq>⟧.eq run counting.old }
@@ -50,9 +59,13 @@ pub fn tell_counting<O: Out>(
         return Err(no_memory());
     }
     // JSON has escapes of its own.
-    let naming = if is_json { Naming::Raw } else { Naming::Shown };
-    match Labels::of_file(alloc, file, naming) {
-        Ok(labels) => tell_labelled(alloc, run, counting, &labels, is_json, out),
+    let naming = if form.is_json {
+        Naming::Raw
+    } else {
+        Naming::Shown
+    };
+    match Labels::of_file(form.alloc, form.file, naming) {
+        Ok(labels) => tell_labelled(form, run, counting, &labels, out),
         Err(refused) => Err(Refusal::from(refused)),
     }
 }
@@ -60,18 +73,17 @@ pub fn tell_counting<O: Out>(
 // What [`tell_counting`] does once the counts are sorted and the symbols read. It is told by its counts alone: the run
 // is there for the clause.
 fn tell_labelled<O: Out>(
-    alloc: Global,
+    form: Form<'_>,
     _run: CountedRun<'_>,
     counting: &Counting,
     labels: &Labels,
-    is_json: bool,
     out: &mut O,
 ) -> Result<(), Refusal>
     requires { HasCounted ⟦<AbortCause as PartialEq>⟧.eq _run counting.now }
     ensures { IfErr result IsUntold }
 {
-    match Report::of(alloc, counting.counts(), counting.conflicts(), labels) {
-        Ok(report) => tell_report(alloc, &report, is_json, out),
+    match Report::of(form.alloc, counting.counts(), counting.conflicts(), labels) {
+        Ok(report) => tell_report(form.alloc, &report, form.is_json, out),
         Err(_) => Err(no_memory()),
     }
 }
@@ -122,7 +134,12 @@ pub fn tell_counts<O: Out, G: Progress>(
 {
     let machine = machine_like(alloc, board.program(), board.limits())?;
     let mut counting = Counting::new(alloc, machine)?;
-    let told = tell_made(alloc, board, &mut counting, file, is_json, out, progress);
+    let form = Form {
+        alloc,
+        file,
+        is_json,
+    };
+    let told = tell_made(form, board, &mut counting, out, progress);
     // Dropped by a call: what a machine and its counts own is much.
     drop(counting);
     told
@@ -130,11 +147,9 @@ pub fn tell_counts<O: Out, G: Progress>(
 
 // What [`tell_counts`] does, with a machine before its first step.
 fn tell_made<O: Out, G: Progress>(
-    alloc: Global,
+    form: Form<'_>,
     board: &Board,
     counting: &mut Counting,
-    file: &ProgramFile<'_>,
-    is_json: bool,
     out: &mut O,
     progress: &mut G,
 ) -> Result<(), Refusal>
@@ -145,5 +160,5 @@ fn tell_made<O: Out, G: Progress>(
     let counted = counting.run_history(board, progress);
     progress.end();
     counted?;
-    tell_counting(alloc, CountedRun::Made(board), counting, file, is_json, out)
+    tell_counting(form, CountedRun::Made(board), counting, out)
 }

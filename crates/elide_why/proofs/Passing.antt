@@ -10,7 +10,7 @@ kept_first (Some xs) None last text h k = absurd h
 kept_first (Some xs) (Some ys) None text h k = absurd k
 kept_first (Some xs) (Some ys) (Some zs) text h k = k ∙ ap (λ l. l ++ text) h
 
-kept_last : (begun ended last : Option (List ℕ)) (text : List ℕ) → Appends begun ended text → Keeps ended last
+pub kept_last : (begun ended last : Option (List ℕ)) (text : List ℕ) → Appends begun ended text → Keeps ended last
     → Appends begun last text
 kept_last None ended last text k e = tt
 kept_last (Some xs) None last text k e = absurd k

@@ -30,12 +30,13 @@ pub fn tell_history<O: Out, G: Progress>(
     ensures told { IfOk result (λ _. (text : List ℕ) × Wrote (O.device out.old) (O.device out.new) text) }
     ensures refused { IfErr result (IsNotRetold board.now.limits) }
 {
-    let told = told_steps(alloc, board, path, places, out, progress);
+    let told = tell_steps(alloc, board, path, places, out, progress);
     progress.end();
     told
 }
 
-fn told_steps<O: Out, G: Progress>(
+// Without the end of the progress.
+fn tell_steps<O: Out, G: Progress>(
     alloc: Global,
     board: &Board,
     path: &str,

@@ -96,7 +96,7 @@ impl<'a> Teller<'a> {
         let reason = self.watch.reason(&self.asked);
         let begun = self.watch.begun(&self.asked);
         let outcome = machine.make_step(pick)?;
-        self.watch.told(&self.asked, outcome);
+        self.watch.note(&self.asked, outcome);
         self.tell(outcome, reason, begun, out)?;
         Ok(outcome)
     }

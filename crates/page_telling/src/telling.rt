@@ -66,7 +66,7 @@ pub fn write_steps<O: Out + Drop>(
         .walk(alloc, cores, false, &mut telling, &mut Silent)?;
     let Telling { out, made, .. } = telling;
     check_made(made, stretch.total, stretch.window)?;
-    ended(out)
+    put_end(out)
 }
 
 // That so many steps were made as the run has, those of the window among them. A schedule makes the steps again that it
@@ -84,7 +84,7 @@ fn check_made(made: u64, total: u64, window: Window) -> Result<(), Refusal>
 }
 
 // The end of the list.
-fn ended<O: Out + Drop>(out: O) -> Result<O, Refusal>
+fn put_end<O: Out + Drop>(out: O) -> Result<O, Refusal>
     ensures text { IfOk result (λ last. Wrote (O.device out) (O.device last) (codes "]")) }
     ensures refused { IfErr result IsUnwritten }
 {
@@ -136,17 +136,16 @@ impl<O: Out> StepMaker for Telling<O> {
             self.made = made;
             return Ok(outcome);
         }
-        let told = step_told(self.alloc, &mut self.machine, &mut self.behind, pick)?;
-        put_told(
-            self.alloc,
-            self.window,
-            self.made,
-            &told,
-            &self.machine,
-            &self.behind,
-            self.lines.as_slice(),
-            &mut self.out,
-        )?;
+        let told = take_step(self.alloc, &mut self.machine, &mut self.behind, pick)?;
+        let standing = Standing {
+            alloc: self.alloc,
+            window: self.window,
+            made: self.made,
+            machine: &self.machine,
+            behind: &self.behind,
+            lines: self.lines.as_slice(),
+        };
+        put_told(standing, &told, &mut self.out)?;
         self.made = made;
         Ok(told.outcome)
     }
@@ -198,7 +197,7 @@ struct Told {
 }
 
 // Makes a step, with what it changes.
-fn step_told(
+fn take_step(
     alloc: Global,
     machine: &mut Machine,
     behind: &mut Behind,
@@ -214,7 +213,7 @@ fn step_told(
     let outcome = machine.make_step(pick)?;
     // By what was kept before the step: a commit writes it, and keeps it no longer.
     let delta = difference(alloc, &behind.kept, &before, outcome, machine)?;
-    behind.watch.told(&before.asked, outcome);
+    behind.watch.note(&before.asked, outcome);
     behind
         .kept
         .take(alloc, pick.core, outcome, delta.stored.as_slice())?;
@@ -267,22 +266,32 @@ fn state_of(machine: &Machine, pick: Pick) -> Result<CoreState, Refusal>
     }
 }
 
-// Writes what stands in a page of a step behind so many others: its line, or what opens the page behind it, or nothing.
-fn put_told<O: Out>(
+// Where a run stands behind a step that was made behind so many others.
+#[derive(Clone, Copy)]
+struct Standing<'a> {
     alloc: Global,
     window: Window,
     made: u64,
-    told: &Told,
-    machine: &Machine,
-    behind: &Behind,
-    lines: &[LineUse],
-    out: &mut O,
-) -> Result<(), Refusal>
-    ensures piece { OnOk result ((pick : Pick) → IsPiece window made
+    machine: &'a Machine,
+    behind: &'a Behind,
+    lines: &'a [LineUse],
+}
+
+// Writes what stands in a page of a step: its line, or what opens the page behind it, or nothing.
+fn put_told<O: Out>(standing: Standing<'_>, told: &Told, out: &mut O) -> Result<(), Refusal>
+    ensures piece { OnOk result ((pick : Pick) → IsPiece standing.entry.window standing.entry.made
         (record { pick = pick; outcome = told.now.outcome; before = told.now.before; delta = told.now.delta })
         (O.device out.old) (O.device out.new)) }
     ensures refused { IfErr result IsUntold }
 {
+    let Standing {
+        alloc,
+        window,
+        made,
+        machine,
+        behind,
+        lines,
+    } = standing;
     if window.holds(made) {
         return put_line(alloc, made == window.from, &told.delta, told.before, out);
     }

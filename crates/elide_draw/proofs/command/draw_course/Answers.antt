@@ -9,11 +9,13 @@ use Rattle.elide_draw.proofs.command.draw_course.Goals as goal
 pub returns : goal.returns
 returns g c =
     let left = g.P.Paths.content c.record_drawn-drawn.new.paths in
-    let asked = c.args.asked.now in
+    let setup = c.args.drawing.setup.now in
+    let course = c.args.course.now in
+    let path = c.args.drawing.asked.now.path in
+    let made = c.in_ok-tally.tally.made.items in
     on_ok_weaker c.record_drawn-drawn.result
-    (λ (h : IsRecorded left asked.path (schedule_made c.args.course.now c.in_ok-counted.counted.made.items)).
-    has_run left c.args.setup.now c.args.course.now asked.path c.in_ok-counted.counted.made.items
+    (λ (h : IsRecorded left path (schedule_made course made)).
+    has_run left setup course path made
     (c.in_ok-timeline.ensures.0, c.in_ok-timeline.ensures.1)
-    (subst (λ (keeps : Bool). IsTally c.args.setup.now c.args.course.now keeps c.in_ok-counted.counted.made.items)
-    c.is_some.ensures c.in_ok-counted.ensures) h)
+    (subst (λ (keeps : Bool). IsTally setup course keeps made) c.is_some.ensures c.in_ok-tally.ensures) h)
     c.record_drawn-drawn.ensures

@@ -3,12 +3,11 @@ use Rattle.std.proofs.lemmas.Result.{err_from_is_err_and}
 use Rattle.std.specs.Borrow.{Bor}
 use Rattle.std.specs.Prelude.{IfSome}
 use Rattle.elide_program.specs.Files.{Gives, most_bytes}
-use Rattle.elide_program.specs.ProgramFile.{IsFile}
 use Rattle.elide_setup.specs.Recorded.{IsRecorded}
 use Rattle.elide_setup.specs.Refused.{HasNoProgram, IsNotPaged, no_setup, not_read}
 use Rattle.tm_schedule.specs.Schedule.{schedule_text}
 use Rattle.tm_hunt.specs.Deciding.{deciding}
-use Rattle.elide_hunt.specs.Printed.{IsTrialOf}
+use Rattle.elide_hunt.proofs.Hunted.{searched_by}
 use Rattle.elide_hunt.specs.Refused.{misordered, not_told, unpaged, without_program}
 use Rattle.elide_hunt.proofs.command.hunt.Goals as goal
 
@@ -26,35 +25,19 @@ returns-clause-printed g c =
     let one = c.in_ok-search.search in
     let orders = c.in_ok-orders.orders in
     let beside = c.in_ok-search.beside in
-    let made = c.in_ok-search.ensures.hunted in
     record {
-      setup = made.1;
-      asked = record {
-        file = made.0;
-        read = record {
-          text = bytes;
-          given = given;
-          read = subst (λ (text : List ℕ). IsFile text made.0) c.as_slice.ensures.value made.3;
-        };
-        settings = c.in_ok-settings.settings;
-        said = c.in_ok-settings.ensures.settings;
-        made = made.4;
-      };
-      trial = made.2;
-      made =
-          subst (λ (text : List ℕ). IsTrialOf text made.0 options made.1 orders made.2) c.as_slice.ensures.value made.5;
-      orders = orders;
-      ordered = record {
-        runs = c.in_ok-orders.ensures.runs;
-        seed = c.in_ok-orders.ensures.seed;
-        method = c.in_ok-orders.ensures.method;
-        events = c.in_ok-orders.ensures.events;
-        most = c.in_ok-orders.ensures.most;
-        jobs = c.in_ok-orders.ensures.jobs;
-      };
-      beside = beside;
       search = one;
-      hunted = made.6;
+      searched = searched_by content options c.in_ok-settings.settings orders bytes c.as_slice.result.now one beside
+          given c.as_slice.ensures.value c.in_ok-settings.ensures.settings
+          (record {
+            runs = c.in_ok-orders.ensures.runs;
+            seed = c.in_ok-orders.ensures.seed;
+            method = c.in_ok-orders.ensures.method;
+            events = c.in_ok-orders.ensures.events;
+            most = c.in_ok-orders.ensures.most;
+            jobs = c.in_ok-orders.ensures.jobs;
+          })
+          c.in_ok-search.ensures.hunted;
       told = c.in_ok-answer.ensures.told;
       recorded = subst (λ (path : Option (Bor (List ℕ))). IfSome one.found (λ found. IsRecorded left path
           (schedule_text (deciding found.failure)))) c.in_ok-path.ensures.given c.in_ok-write_record.ensures.written;
@@ -100,41 +83,23 @@ returns-in_err-paged-clause-refused g c =
     (subst (λ (known : Option (List ℕ)). Gives known most_bytes bytes)
     (c.page_path.ensures.kept options.machine.file.now) c.in_ok-text.ensures.given) in
     let orders = c.in_ok-orders.orders in
-    let made = c.in_ok-search.ensures.hunted in
     let paged = c.in_err-paged.ensures in
     rw (p.1, p.2)
     (unpaged (record {
       page = paged.0;
       asked = sym c.in_ok-page.ensures.given ∙ paged.2;
       search = c.in_ok-search.search;
-      searched = record {
-        setup = made.1;
-        asked = record {
-          file = made.0;
-          read = record {
-            text = bytes;
-            given = given;
-            read = subst (λ (text : List ℕ). IsFile text made.0) c.as_slice.ensures.value made.3;
-          };
-          settings = c.in_ok-settings.settings;
-          said = c.in_ok-settings.ensures.settings;
-          made = made.4;
-        };
-        orders = orders;
-        ordered = record {
-          runs = c.in_ok-orders.ensures.runs;
-          seed = c.in_ok-orders.ensures.seed;
-          method = c.in_ok-orders.ensures.method;
-          events = c.in_ok-orders.ensures.events;
-          most = c.in_ok-orders.ensures.most;
-          jobs = c.in_ok-orders.ensures.jobs;
-        };
-        trial = made.2;
-        made = subst (λ (text : List ℕ). IsTrialOf text made.0 options made.1 orders made.2)
-            c.as_slice.ensures.value made.5;
-        beside = c.in_ok-search.beside;
-        hunted = made.6;
-      };
+      searched = searched_by content options c.in_ok-settings.settings orders bytes c.as_slice.result.now
+          c.in_ok-search.search c.in_ok-search.beside given c.as_slice.ensures.value c.in_ok-settings.ensures.settings
+          (record {
+            runs = c.in_ok-orders.ensures.runs;
+            seed = c.in_ok-orders.ensures.seed;
+            method = c.in_ok-orders.ensures.method;
+            events = c.in_ok-orders.ensures.events;
+            most = c.in_ok-orders.ensures.most;
+            jobs = c.in_ok-orders.ensures.jobs;
+          })
+          c.in_ok-search.ensures.hunted;
       found = paged.1;
       failed = paged.3;
       refused =

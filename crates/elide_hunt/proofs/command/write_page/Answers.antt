@@ -10,13 +10,14 @@ use Rattle.elide_hunt.proofs.command.write_page.Goals as goal
 
 pub returns-in-Some-Some : goal.returns-in-Some-Some
 returns-in-Some-Some g c =
-    let text : List ℕ = c.args.text.now in
-    let machine = c.args.options.now.machine in
+    let ended = c.args.ended in
+    let text : List ℕ = ended.text.now in
+    let machine = ended.options.now.machine in
     let page : Option (Bor (List ℕ)) = c.args.page in
     let run : Found = c.in-Some-Some.found in
     IfErr-weaker c.write_page.result (IsNotPaged text machine c.deciding-picks.result.now)
     (λ (why : Refusal). (given : Bor (List ℕ)) × (found : Found) × (page ≡ Some given)
-    × (c.args.search.now.found ≡ Some found) × IsNotPaged text machine (deciding found.failure) why)
+    × (ended.search.now.found ≡ Some found) × IsNotPaged text machine (deciding found.failure) why)
     (λ why h. (
       c.in-Some-Some.page,
       run,

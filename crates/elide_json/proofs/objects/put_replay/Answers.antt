@@ -12,9 +12,9 @@ use Rattle.elide_json.proofs.objects.put_replay.Goals as goal
 pub returns-clause-wrote : goal.returns-clause-wrote
 returns-clause-wrote g c =
     let device = g.O.Out.device in
-    let machine = c.args.machine.now in
-    let parts = c.args.parts.now in
-    let texts = c.args.texts.now in
+    let machine = c.args.subject.machine.now in
+    let parts = c.args.subject.parts.now in
+    let texts = c.args.subject.texts.now in
     let rows = c.in_ok-rows.rows in
     let are : AreRowsOf machine.memory parts texts rows =
     subst (λ (memory : List ℕ). AreRowsOf memory parts texts rows) c.view.ensures c.in_ok-rows.ensures.rows in

@@ -5,7 +5,7 @@ use Rattle.elide_outcomes.proofs.command.search_of_setup.Goals as goal
 
 pub returns : goal.returns
 returns g c =
-    either_weaker c.sorted.result _ _ _ _
+    either_weaker c.search_in_order.result _ _ _ _
     (λ search is. (
       _,
       record {
@@ -28,4 +28,4 @@ returns g c =
       checks = c.in_ok-checks.ensures.0;
     })
     none)
-    c.sorted.ensures
+    c.search_in_order.ensures

@@ -25,20 +25,20 @@ both (Err e) P Q R third p q = tt
 pub returns-clause-printed : goal.returns-clause-printed
 returns-clause-printed g c =
     let content : List ℕ → Option (List ℕ) = g.P.Paths.content c.args.paths.now in
-    let left : List ℕ → Option (List ℕ) = g.P.Paths.content c.compared.new.paths in
+    let left : List ℕ → Option (List ℕ) = g.P.Paths.content c.compare.new.paths in
     let options = c.args.options.now in
     let setup = c.in_ok-setup.setup in
     let board = c.in_ok-board.board in
     let stepped = c.in_ok-board.ensures.steps in
-    let recorded : IfOk c.compared.result (λ _. IsRecorded left options.record (schedule_text (picks_told stepped.0))) =
-    IfOk-weaker c.compared.result (λ _. IsRecorded left c.in_ok-path.path (schedule_text (picks_of board.history)))
+    let recorded : IfOk c.compare.result (λ _. IsRecorded left options.record (schedule_text (picks_told stepped.0))) =
+    IfOk-weaker c.compare.result (λ _. IsRecorded left c.in_ok-path.path (schedule_text (picks_of board.history)))
     (λ _. IsRecorded left options.record (schedule_text (picks_told stepped.0)))
     (λ _ h. subst (λ (path : Option (Bor (List ℕ))). IsRecorded left path (schedule_text (picks_told stepped.0)))
     c.in_ok-path.ensures.given
     (subst (λ (history : List (ℕ × Outcome)). IsRecorded left c.in_ok-path.path (schedule_text (picks_of history)))
     stepped.1.history h))
-    c.compared.ensures.recorded in
-    both c.compared.result
+    c.compare.ensures.recorded in
+    both c.compare.result
     (λ (r : Agreement × g.row.O.Denot). IsTold setup options board (g.O.Out.device c.args.out).contents
     (g.O.Out.device r.1).contents)
     (λ (r : Agreement × g.row.O.Denot). IsRecorded left options.record (schedule_text (picks_told stepped.0)))
@@ -58,7 +58,7 @@ returns-clause-printed g c =
       recorded = recorded;
       told = told;
     })
-    c.compared.ensures.told recorded
+    c.compare.ensures.told recorded
 
 pub returns-in_err-setup-clause-refused : goal.returns-in_err-setup-clause-refused
 returns-in_err-setup-clause-refused g c =
@@ -89,8 +89,8 @@ returns-clause-refused g c =
     let board = c.in_ok-board.board in
     let is = subst (λ (text : Option (List ℕ)). IsAsked text options.machine setup)
     (c.record_path.ensures.kept options.machine.file.now) c.in_ok-setup.ensures.setup in
-    IfErr-weaker c.compared.result (IsNotCompared setup board c.in_ok-path.path)
+    IfErr-weaker c.compare.result (IsNotCompared setup board c.in_ok-path.path)
     (IsRefused (g.P.Paths.content c.args.paths.now) (g.P.Paths.are_one c.args.paths.now) options)
     (λ why h. not_compared setup board is c.in_ok-board.ensures.made
     (subst (λ (path : Option (Bor (List ℕ))). IsNotCompared setup board path why) c.in_ok-path.ensures.given h))
-    c.compared.ensures.refused
+    c.compare.ensures.refused

@@ -1,20 +1,17 @@
-use Rattle.std.proofs.Common.{◌∙◌, ◌++◌, ℕ, List, Option, append_assoc, length, subst}
+use Rattle.std.proofs.Common.{◌∙◌, ◌++◌, ℕ, List, Option, append_assoc, subst}
 use Rattle.std.proofs.lemmas.Result.{IfErr-weaker, IfOk-weaker, err_from_is_err_and}
-use Rattle.std.specs.Borrow.{Bor}
 use Rattle.std.specs.Io.KnownBytes.{Appends}
 use Rattle.text_out.proofs.Writing.{appends_then}
 use Rattle.elide_json.proofs.RunTexts.{run_text}
 use Rattle.elide_json.specs.Outcomes.{run_back, run_front, run_rows}
-use Rattle.elide_setup.proofs.Records.{recorded_asked}
 use Rattle.elide_setup.proofs.Schedules.{asked_before}
 use Rattle.elide_device.specs.Gathering.{told}
-use Rattle.elide_setup.specs.Recorded.{IsRecorded}
-use Rattle.elide_setup.specs.Schedules.{picks_made, picks_told, schedule_made}
 use Rattle.elide_setup.specs.Setup.{IsAsked}
 use Rattle.elide_device.specs.declared.gathered.Gathered.{Gathered}
 use Rattle.elide_why.proofs.Passing.{kept_first}
 use Rattle.elide_json.specs.Refused.{IsUnsent}
 use Rattle.elide_why.proofs.Refusing.{scheduled_before}
+use Rattle.elide_run.proofs.Printed.{run_of_options}
 use Rattle.elide_run.proofs.Refusing.{of_object, of_run}
 use Rattle.elide_run.specs.Refused.{IsRefused, unscheduled}
 use Rattle.elide_run.specs.Object.{IsEnd, IsObjectPrinted, end_members}
@@ -24,13 +21,14 @@ use Rattle.elide_run.proofs.object.run_object.Goals as goal
 pub returns-clause-printed : goal.returns-clause-printed
 returns-clause-printed g c =
     let content : List ℕ → Option (List ℕ) = g.P.Paths.content c.args.paths.now in
-    let left : List ℕ → Option (List ℕ) = g.P.Paths.content c.stepped-made.new.paths in
+    let left : List ℕ → Option (List ℕ) = g.P.Paths.content c.make_steps-made.new.paths in
     let held : Gathered g.row.O.Denot → Option (List ℕ) =
     λ m. told (g.O.Out.device m.out).contents (g.O.Out.device m.before.value).contents m.failures m.row.items in
     let options = c.args.options.now in
     let setup = c.in_ok-opened.opened.setup in
     let machine = c.in_ok-machine.machine in
     let made = c.in_ok-machine.ensures.made in
+    let opened = c.in_ok-opened.ensures in
     let first : Option (List ℕ) = (g.O.Out.device c.args.out).contents in
     let begun : Option (List ℕ) = held c.new-page.result in
     let between : Option (List ℕ) = held c.in_ok-machine.page in
@@ -44,18 +42,10 @@ returns-clause-printed g c =
     let back = run_back options.traces others in
     record {
       setup = setup;
-      asked = subst (λ (text : Option (List ℕ)). IsAsked text options.machine setup)
-          (c.record_path.ensures.kept options.machine.file.now) c.in_ok-opened.ensures.setup;
-      made = made.0;
-      steps = asked_before content (g.P.Paths.content c.record_path.new.paths) options.schedule (picks_made made.0)
-          c.record_path.ensures.kept (c.in_ok-opened.ensures.course (picks_made made.0) made.1);
       machine = machine;
-      ran = made.2;
-      out = c.in_ok-opened.ensures.out (length setup.program.entries) made.0 made.5;
-      recorded = recorded_asked left options.record options.schedule c.in_ok-opened.opened.course made.0
-          c.in_ok-opened.ensures.listed made.1
-          (subst (λ (path : Option (Bor (List ℕ))). IsRecorded left path
-          (schedule_made c.in_ok-opened.opened.course (picks_told made.0))) c.in_ok-path.ensures.given made.4);
+      run = run_of_options content (g.P.Paths.content c.record_path.new.paths) left options c.in_ok-opened.opened
+          c.in_ok-path.path machine made.0 c.record_path.ensures.kept opened.setup opened.course opened.listed
+          opened.out c.in_ok-path.ensures.given made.1 made.2 made.5 made.4;
       came_to = end.came_to;
       wrote = subst (λ (text : List ℕ). Appends first last text)
           (append_assoc (run_front options.traces) (run_rows options.traces made.0) back

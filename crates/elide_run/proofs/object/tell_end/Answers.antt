@@ -4,7 +4,8 @@ use Rattle.elide_json.specs.Objects.{run_members}
 use Rattle.elide_json.specs.Outcomes.{run_back}
 use Rattle.elide_device.specs.Gathering.{told}
 use Rattle.elide_device.specs.declared.gathered.Gathered.{Gathered}
-use Rattle.elide_run.proofs.Ends.{ending_by, kept_last}
+use Rattle.elide_run.proofs.Ends.{ending_by}
+use Rattle.elide_why.proofs.Passing.{kept_last}
 use Rattle.elide_run.specs.Object.{asked_running, ending_status, running_cores}
 use Rattle.elide_run.proofs.object.tell_end.Goals as goal
 

@@ -45,5 +45,5 @@ returns-clause-refused g c =
     let made = c.in_ok-setup.ensures.made in
     IfErr-weaker c.tell-told.result (λ (why : Refusal). HasNotAll setup machine why ⊎ IsUnwritten why)
     (IsRefused content are_one options)
-    (λ why h. of_end content are_one options setup machine made.made why made.asked made.ran h)
+    (λ why h. of_end content are_one options setup machine made.run.made why made.run.asked made.run.ran h)
     c.tell-told.ensures.refused

@@ -1,33 +1,20 @@
-use Rattle.std.proofs.Common.{ℕ, List, Option, length, subst}
-use Rattle.std.specs.Borrow.{Bor}
+use Rattle.std.proofs.Common.{ℕ, List, Option, subst}
 use Rattle.std.proofs.lemmas.Result.{err_from_is_err_and}
-use Rattle.elide_setup.proofs.Records.{recorded_asked}
 use Rattle.elide_setup.proofs.Schedules.{asked_before}
-use Rattle.elide_setup.specs.Recorded.{IsRecorded}
-use Rattle.elide_setup.specs.Schedules.{picks_made, picks_told, schedule_made}
 use Rattle.elide_setup.specs.Setup.{IsAsked}
+use Rattle.elide_run.proofs.Printed.{run_of_options}
 use Rattle.elide_run.proofs.Refusing.{of_opening, of_run}
 use Rattle.elide_run.proofs.schedule.run_steps.Goals as goal
 
 pub returns-clause-made : goal.returns-clause-made
 returns-clause-made g c =
     let stepped = c.in_ok-machine.ensures.made in
-    let opened = c.in_ok-opened.opened in
-    let left : List ℕ → Option (List ℕ) = g.P.Paths.content c.steps_told-made.new.paths in
-    let options = c.args.options.now in
+    let opened = c.in_ok-opened.ensures in
     record {
-      asked = subst (λ (content : Option (List ℕ)). IsAsked content options.machine opened.setup)
-          (c.record_path.ensures.kept options.machine.file.now) c.in_ok-opened.ensures.setup;
-      made = stepped.made;
-      steps = asked_before (g.P.Paths.content c.args.paths.now) (g.P.Paths.content c.record_path.new.paths)
-          options.schedule (picks_made stepped.made) c.record_path.ensures.kept
-          (c.in_ok-opened.ensures.course (picks_made stepped.made) stepped.steps);
-      ran = stepped.ran;
-      out = c.in_ok-opened.ensures.out (length opened.setup.program.entries) stepped.made stepped.out;
-      recorded = recorded_asked left options.record options.schedule opened.course stepped.made
-          c.in_ok-opened.ensures.listed stepped.steps
-          (subst (λ (path : Option (Bor (List ℕ))). IsRecorded left path
-          (schedule_made opened.course (picks_told stepped.made))) c.in_ok-path.ensures.given stepped.recorded);
+      run = run_of_options (g.P.Paths.content c.args.paths.now) (g.P.Paths.content c.record_path.new.paths)
+          (g.P.Paths.content c.tell_steps-made.new.paths) c.args.options.now c.in_ok-opened.opened c.in_ok-path.path
+          c.in_ok-machine.machine stepped.made c.record_path.ensures.kept opened.setup opened.course opened.listed
+          opened.out c.in_ok-path.ensures.given stepped.steps stepped.ran stepped.out stepped.recorded;
       lines = stepped.lines;
       traced = stepped.traced;
       wrote = stepped.wrote.bytes;

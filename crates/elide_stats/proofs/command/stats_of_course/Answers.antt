@@ -20,14 +20,15 @@ returns-clause-ran g c =
 
 pub returns-clause-refused : goal.returns-clause-refused
 returns-clause-refused g c =
-    IfErr-weaker c.tell_counting.result IsUntold (IsNoCount c.args.setup.now c.args.course.now c.args.asked.now.path)
+    let ready = c.args.ready in
+    IfErr-weaker c.tell_counting.result IsUntold (IsNoCount ready.setup.now ready.course.now ready.asked.now.path)
     (λ why h. untold h) c.tell_counting.ensures
 
 pub returns-in_err-run_course-clause-refused : goal.returns-in_err-run_course-clause-refused
 returns-in_err-run_course-clause-refused g c =
-    let path = c.args.asked.now.path in
+    let ready = c.args.ready in
     let why = c.in_err-run_course.field-0.0 in
     let p = err_from_is_err_and c.from_residual.result c.from_residual.ensures.1 in
     rw (p.1, p.2)
-    (uncounted (subst (λ (cores : ℕ). IsUncounted c.args.course.now cores path why) c.requires.cores
+    (uncounted (subst (λ (cores : ℕ). IsUncounted ready.course.now cores ready.asked.now.path why) c.requires.cores
     c.in_err-run_course.ensures.refused))

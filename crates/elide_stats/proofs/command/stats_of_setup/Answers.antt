@@ -13,8 +13,8 @@ use Rattle.elide_stats.proofs.command.stats_of_setup.Goals as goal
 
 pub returns-clause-ran : goal.returns-clause-ran
 returns-clause-ran g c =
-    let setup = c.args.setup.now in
-    let course = c.args.course.now in
+    let setup = c.args.ready.setup.now in
+    let course = c.args.ready.course.now in
     let left = g.P.Paths.content c.stats_of_course-told.new.paths in
     let first = c.in_ok-counting.counting.machine in
     let begun : IsRunOf setup.program setup.limits [] first =
@@ -24,7 +24,7 @@ returns-clause-ran g c =
     (λ (h :
     (made : List (Pick × Outcome)) × (after : ShownMachine) × AreOf course (picks_made made)
     × Leads AreMachineSteps first made after
-    × IsRecorded left c.args.asked.now.path (schedule_made course (picks_told made))). record {
+    × IsRecorded left c.args.ready.asked.now.path (schedule_made course (picks_told made))). record {
       made = h.0;
       steps = h.2;
       machine = h.1;

@@ -39,14 +39,14 @@ returns-clause-written g c =
     let all : HasTold (spot opened) walked.0 (spot ended) =
     has_told (spot opened) walked.0 (spot ended) known
     (all_tell spot (λ a steps b h. h) walked.0 opened ended walked.2) in
-    IfOk-weaker c.ended.result
+    IfOk-weaker c.put_end.result
     (λ (last : g.row.O.Denot). Wrote (g.O.Out.device ended.out) (g.O.Out.device last) (codes "]"))
     (λ (last : g.row.O.Denot). AreLinesWritten stretch (g.O.Out.device c.args.out) (g.O.Out.device last))
     (λ last end. lines_written stretch walked.0 (spot opened) (spot ended) (g.O.Out.device c.args.out)
     (g.O.Out.device last) walked.1 opens
     c.open_first.ensures.made c.open_first.ensures.window c.in_ok-open_first.ensures.text all
     c.in_ok-check_made.ensures.all c.in_ok-check_made.ensures.reached end)
-    c.ended.ensures.text
+    c.put_end.ensures.text
 
 pub returns-in_err-walk-clause-refused : goal.returns-in_err-walk-clause-refused
 returns-in_err-walk-clause-refused g c =

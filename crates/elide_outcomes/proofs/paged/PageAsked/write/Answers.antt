@@ -8,9 +8,9 @@ use Rattle.elide_outcomes.proofs.paged.PageAsked.write.Goals as goal
 
 pub returns-in-Some : goal.returns-in-Some
 returns-in-Some g c =
-    let text = c.args.text.now in
-    let options = c.args.machine.now in
-    let told = c.args.told.now in
+    let text = c.args.searched.text.now in
+    let options = c.args.searched.machine.now in
+    let told = c.args.searched.told.now in
     let one = c.in-Some.outcome.now in
     IfErr-weaker c.write_page.result (IsNotPaged text options c.as_slice-picks.result.now)
     (IsNotShown text options told c.args.self)

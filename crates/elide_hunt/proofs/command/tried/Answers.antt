@@ -1,5 +1,0 @@
-use Rattle.elide_hunt.specs.Refused.{not_made}
-use Rattle.elide_hunt.proofs.command.tried.Goals as goal
-
-pub returns-in-Err-clause-refused : goal.returns-in-Err-clause-refused
-returns-in-Err-clause-refused g c = not_made c.in-Err.fault c.in-Err.ensures.err c.fault_of.ensures
