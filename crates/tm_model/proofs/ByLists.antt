@@ -1,6 +1,7 @@
 -- The definitions that ask for a set's length or members, once more over lists of lines: a FinSet's do not compute,
 -- and these do. They are shown to be the same.
 use Rattle.std.specs.Prelude.{◌≡◌, ℕ, ◌+◌, Bool, ◌||◌, ◌&&◌, not, nat_lt, List, [], ◌∷◌, ◌++◌, map, Option, Some}
+use Rattle.std.specs.Prelude.{unwrap_or}
 use Rattle.std.specs.Prelude.{None, nat_eq, if◌then◌else◌, refl}
 use Rattle.std.proofs.Common.{ap, ◌∙◌, cond}
 use Rattle.std.specs.List.{list_any}
@@ -9,15 +10,15 @@ use Rattle.std.specs.FinSet as set
 use Rattle.std.specs.Cmp.{nat_cmp_total}
 use Rattle.ia_word.specs.Line.{line}
 use Rattle.tm_model.specs.Access.{Stores, stored_addresses, stores_of}
-use Rattle.tm_model.specs.declared.outcome.Event.TheVariants as event
-use Rattle.tm_model.specs.Conflicts.{Doomed, addresses_loaded_by, addresses_stored_by, depth_at_hit, doom_after_other}
+use Rattle.tm_model.specs.Conflicts.{Doomed, addresses_loaded_by, addresses_written_by, depth_at_hit, doom_after_other}
 use Rattle.tm_model.specs.Conflicts.{doom_after_own, doomed_after, is_hit}
 use Rattle.tm_model.specs.Isolated.{Body, instruction_after, isolated_body}
-use Rattle.tm_model.specs.Owed.{abort_at, abort_by, depth_of, owed_after, owed_inside, owed_outcome, owed_under}
+use Rattle.tm_model.specs.Owed.{abort_at, outcome_of_event, owed_after, owed_inside, owed_outcome, owed_under}
 use Rattle.tm_model.specs.Owed.{owed_with_room}
 use Rattle.tm_model.specs.Setting.{Setting}
-use Rattle.tm_model.specs.State.{Closed, Core, Halted, Midway, Opened, State}
-use Rattle.tm_model.specs.Types.{Capacity, Committed, Ends, Event, Fails, GoesOn, Idle, Inside}
+use Rattle.tm_model.specs.State.{Closed, Core, Halted, Midway, Opened, Pending, State, seen_by, seen_memory}
+use Rattle.tm_model.specs.Steps.{must_wait}
+use Rattle.tm_model.specs.Types.{Capacity, Committed, Drained, Ends, Event, Fails, GoesOn, Idle, Inside}
 use Rattle.tm_model.specs.Types.{Nests, Outcome, InsideResult}
 
 -- ---- the definitions over lists of lines
@@ -62,9 +63,9 @@ abbrev pub doomed_after_by_lists : Setting → State → Doomed → ℕ → Outc
 doomed_after_by_lists setting state doomed number outcome other =
     if nat_eq other number
     then doom_after_own outcome (doomed number)
-    else doom_after_other_by_lists setting state.memory
-    (addresses_loaded_by setting state.memory (state.cores number) outcome)
-    (addresses_stored_by setting state.memory (state.cores number) outcome)
+    else doom_after_other_by_lists setting (seen_by state other)
+    (addresses_loaded_by setting (seen_by state number) (state.cores number) outcome)
+    (addresses_written_by setting state.memory (state.pending number) (state.cores number) outcome)
     (state.cores other) (doomed other)
 
 abbrev owed_with_room_by_lists : Setting → Body → Stores → Outcome → Outcome
@@ -91,18 +92,21 @@ owed_outcome_by_lists setting memory (Opened regs steps) None =
     owed_after_by_lists setting memory (isolated_body setting regs memory steps)
 owed_outcome_by_lists setting memory core doom = owed_outcome setting memory core doom
 
-abbrev pub owed_under_by_lists : Option Event → Setting → List ℕ → Core → Option ℕ → Outcome
-owed_under_by_lists None setting memory core doom = owed_outcome_by_lists setting memory core doom
-owed_under_by_lists (Some (event.Abort by)) setting memory (Opened regs steps) None =
-    abort_by by (depth_of (isolated_body setting regs memory steps))
-owed_under_by_lists (Some (event.Abort by)) setting memory core doom = owed_outcome_by_lists setting memory core doom
+-- what is owed under an event, by what is owed to what a core sees
+abbrev pub owes_under : (List ℕ → Core → Option ℕ → Outcome) → Setting → Option Event → List ℕ → Pending → Core →
+    Option ℕ → Outcome
+owes_under owes setting event memory pending core doom =
+    let seen : List ℕ = seen_memory memory pending in
+    let outcome : Outcome = owes seen core doom in
+    unwrap_or (outcome_of_event event setting memory pending core doom)
+    (if must_wait setting seen pending core outcome then Drained else outcome)
 
--- the same, by the setting first
-abbrev pub owing : Setting → Option Event → List ℕ → Core → Option ℕ → Outcome
+-- the same as is owed, by the setting first
+abbrev pub owing : Setting → Option Event → List ℕ → Pending → Core → Option ℕ → Outcome
 owing setting event = owed_under event setting
 
-abbrev pub owing_by_lists : Setting → Option Event → List ℕ → Core → Option ℕ → Outcome
-owing_by_lists setting event = owed_under_by_lists event setting
+abbrev pub owing_by_lists : Setting → Option Event → List ℕ → Pending → Core → Option ℕ → Outcome
+owing_by_lists setting = owes_under (owed_outcome_by_lists setting) setting
 
 -- ---- they are the same
 
@@ -131,9 +135,9 @@ same_doom setting memory loads stores (Halted regs stop) doom = refl
 pub same_doomed : (setting : Setting) → doomed_after setting ≡ doomed_after_by_lists setting
 same_doomed setting = λ i state doomed number outcome other.
     cond (nat_eq other number) (doom_after_own outcome (doomed number))
-    (same_doom setting state.memory
-    (addresses_loaded_by setting state.memory (state.cores number) outcome)
-    (addresses_stored_by setting state.memory (state.cores number) outcome)
+    (same_doom setting (seen_by state other)
+    (addresses_loaded_by setting (seen_by state number) (state.cores number) outcome)
+    (addresses_written_by setting state.memory (state.pending number) (state.cores number) outcome)
     (state.cores other) (doomed other) i)
 
 same_room : (setting : Setting) (body : Body) (stores : Stores) (outcome : Outcome) →
@@ -167,14 +171,5 @@ same_at setting memory (Halted regs stop) doom = refl
 pub same_owed : (setting : Setting) → owed_outcome setting ≡ owed_outcome_by_lists setting
 same_owed setting = λ i memory core doom. same_at setting memory core doom i
 
-same_under_at : (event : Option Event) (setting : Setting) (memory : List ℕ) (core : Core) (doom : Option ℕ) →
-    owed_under event setting memory core doom ≡ owed_under_by_lists event setting memory core doom
-same_under_at None setting memory core doom = same_at setting memory core doom
-same_under_at (Some (event.Abort by)) setting memory (Opened regs steps) None = refl
-same_under_at (Some (event.Abort by)) setting memory (Opened regs steps) (Some depth) = refl
-same_under_at (Some (event.Abort by)) setting memory (Closed regs) doom = refl
-same_under_at (Some (event.Abort by)) setting memory (Midway regs value) doom = refl
-same_under_at (Some (event.Abort by)) setting memory (Halted regs stop) doom = refl
-
 pub same_under : (setting : Setting) → owing setting ≡ owing_by_lists setting
-same_under setting = λ i event memory core doom. same_under_at event setting memory core doom i
+same_under setting = λ i. owes_under (same_owed setting i) setting

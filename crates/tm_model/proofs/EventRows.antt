@@ -22,7 +22,7 @@ use Rattle.tm_rule.specs.declared.kinds.Stop.TheVariants as why
 use Rattle.tm_model.specs.Conflicts.{Doomed}
 use Rattle.tm_model.specs.Conflicts.{doomed_after}
 use Rattle.tm_model.specs.Setting.{Setting, setting_of}
-use Rattle.tm_model.specs.State.{Closed, Core, Halted, Midway, Opened, State}
+use Rattle.tm_model.specs.State.{Closed, Core, Halted, Midway, Opened, Pending, State}
 use Rattle.tm_model.specs.Steps.{step}
 use Rattle.tm_model.specs.Types.{Aborted, AbortedBy, Begun, Committed, Event, Idle, Inside, Interference, Loaded}
 use Rattle.tm_model.specs.Types.{Outcome, Pick, Plain, Regs, Stopped}
@@ -39,7 +39,7 @@ pub record Trace : Type 0 where
   pub regs : Regs  -- of core 0, before an open transaction
 
 abbrev Owes : Type 0
-Owes = Option Event → List ℕ → Core → Option ℕ → Outcome
+Owes = Option Event → List ℕ → Pending → Core → Option ℕ → Outcome
 
 abbrev Dooms : Type 0
 Dooms = State → Doomed → ℕ → Outcome → Doomed
@@ -63,7 +63,8 @@ ended state = record { outcomes = []; memory = state.memory; regs = regs_of (sta
 abbrev trace : Owes → Dooms → Setting → State → Doomed → List Pick → Trace
 trace owes dooms setting state doomed [] = ended state
 trace owes dooms setting state doomed (pick ∷ picks) =
-    let outcome : Outcome = owes pick.event state.memory (state.cores pick.core) (doomed pick.core) in
+    let outcome : Outcome =
+    owes pick.event state.memory (state.pending pick.core) (state.cores pick.core) (doomed pick.core) in
     elim (step setting state pick.core outcome) [
       | None ↦ record (ended state) { memory = [] }
       | Some next ↦
@@ -84,6 +85,7 @@ start entry = record {
   memory = replicate 0x1040 0;
   count = 2;
   cores = λ number. Closed (registers number (if nat_eq number 0 then 0x100 else entry));
+  pending = λ _. [];
 }
 
 -- these outcomes, then this byte at 1000h, and of core 0 this EAX and EIP, other registers and flags as at the start
@@ -94,7 +96,7 @@ EndsWith end outcomes byte eax eip =
     × (end.regs.flags ≡ record { 0 = 0 })
 
 abbrev setting_on : List ℕ → Setting
-setting_on code = setting_of code 0x100 0x1040 512 512
+setting_on code = setting_of code 0x100 0x1040 512 512 0
 
 -- by the definitions, and by lists
 abbrev trace_of : List ℕ → ℕ → List Pick → Trace

@@ -2,14 +2,14 @@
 -- their read set or write set, and what it loads hits those that have it in their write set (SDM volume 1, 16.2.4.2).
 -- The core that steps goes on, and a transaction that it hits is doomed (forward validation: Härder, "Observations on
 -- Optimistic Concurrency Control Schemes", Information Systems 9, 1984).
-use Rattle.std.specs.Prelude.{ℕ, suc, Bool, ◌||◌, if◌then◌else◌, List, [], Option, Some, None, nat_eq}
+use Rattle.std.specs.Prelude.{ℕ, suc, Bool, ◌||◌, if◌then◌else◌, List, [], ◌∷◌, Option, Some, None, nat_eq}
 use Rattle.tm_model.specs.Access.{have_line_of, stored_addresses, stores_of}
 use Rattle.tm_model.specs.Isolated.{Body, isolated_body, read_set, write_set}
 use Rattle.tm_model.specs.Setting.{Setting, outside_at}
-use Rattle.tm_model.specs.State.{Closed, Core, Midway, Opened, State}
-use Rattle.tm_model.specs.Types.{Aborted, AbortedBy, Begins, Committed, Goes, Inside, Loaded, Outcome, OutsideResult}
-use Rattle.tm_model.specs.Types.{Plain}
-use Rattle.tm_model.specs.Types.{Stops}
+use Rattle.tm_model.specs.State.{Closed, Core, Midway, Opened, Pending, State, seen_by, seen_memory}
+use Rattle.tm_model.specs.Steps.{store_buffered}
+use Rattle.tm_model.specs.Types.{Aborted, AbortedBy, Begins, Committed, Drained, Goes, Inside, Loaded, Outcome}
+use Rattle.tm_model.specs.Types.{OutsideResult, Plain, Stops, Store}
 
 -- ---- what a step loads and stores
 
@@ -45,6 +45,24 @@ addresses_stored_by setting memory (Opened regs steps) Committed =
     addresses_stored_inside (isolated_body setting regs memory (suc steps))
 addresses_stored_by setting memory core outcome = []
 
+-- the addresses that a store writes in memory when it is no longer pending
+abbrev pub addresses_drained : Pending → List ℕ
+addresses_drained [] = []
+addresses_drained (oldest ∷ younger) = stored_addresses (stores_of (Some oldest))
+
+-- what a step stores is in memory at once
+abbrev pub addresses_at_once : Option Store → List ℕ → List ℕ
+addresses_at_once None addresses = addresses
+addresses_at_once (Some store) addresses = []
+
+-- The addresses that a step writes in memory: those that it stores to, but for a store that is pending now, whose step
+-- in memory comes later. So a store hits nobody before other cores can see it.
+abbrev pub addresses_written_by : Setting → List ℕ → Pending → Core → Outcome → List ℕ
+addresses_written_by setting memory pending core Drained = addresses_drained pending
+addresses_written_by setting memory pending core outcome =
+    let seen : List ℕ = seen_memory memory pending in
+    addresses_at_once (store_buffered setting seen core outcome) (addresses_stored_by setting seen core outcome)
+
 -- ---- what it hits
 
 -- by these addresses loaded and these stored; a store of an unchanged value counts
@@ -60,7 +78,7 @@ abbrev pub depth_at_hit : List ℕ → List ℕ → Option Body → Option ℕ
 depth_at_hit loads stores None = None
 depth_at_hit loads stores (Some body) = if is_hit loads stores body then Some body.depth else None
 
--- what another core's loads and stores, on this memory before its step, make of a core
+-- what another core's loads and stores make of a core which sees this memory before that step
 abbrev pub doom_after_other : Setting → List ℕ → List ℕ → List ℕ → Core → Option ℕ → Option ℕ
 doom_after_other setting memory loads stores (Opened regs steps) None =
     depth_at_hit loads stores (isolated_body setting regs memory steps)
@@ -78,7 +96,7 @@ doomed_after setting state doomed number outcome other =
     if nat_eq other number
     then doom_after_own outcome (doomed number)
     else
-    doom_after_other setting state.memory
-    (addresses_loaded_by setting state.memory (state.cores number) outcome)
-    (addresses_stored_by setting state.memory (state.cores number) outcome)
+    doom_after_other setting (seen_by state other)
+    (addresses_loaded_by setting (seen_by state number) (state.cores number) outcome)
+    (addresses_written_by setting state.memory (state.pending number) (state.cores number) outcome)
     (state.cores other) (doomed other)

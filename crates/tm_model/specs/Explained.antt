@@ -11,14 +11,15 @@ use Rattle.tm_model.specs.declared.explain.AbortReason.TheVariants as reason
 use Rattle.tm_model.specs.declared.explain.Hit.{Hit}
 use Rattle.tm_model.specs.declared.explain.Reach.{Reach}
 use Rattle.tm_model.specs.Access.{Lines, Stores, lines_of, loaded_addresses, memory_after, stored_addresses, stores_of}
-use Rattle.tm_model.specs.Conflicts.{Doomed, addresses_loaded_by, addresses_stored_by, addresses_stored_outside}
+use Rattle.tm_model.specs.Conflicts.{Doomed, addresses_loaded_by, addresses_stored_outside, addresses_written_by}
 use Rattle.tm_model.specs.Conflicts.{doomed_after}
 use Rattle.tm_model.specs.Isolated.{Body, instruction_after, isolated_body, read_set, write_set}
-use Rattle.tm_model.specs.Owed.{abort_at, owed_outcome}
+use Rattle.tm_model.specs.Owed.{abort_at, owed_outcome, owed_under}
 use Rattle.tm_model.specs.Setting.{Setting, outside_at}
-use Rattle.tm_model.specs.State.{Closed, Core, Halted, Midway, Opened, State}
-use Rattle.tm_model.specs.Types.{Aborted, AbortedBy, Begins, Begun, Cause, Committed, Ends, Fails, Goes, GoesOn, Idle}
-use Rattle.tm_model.specs.Types.{Inside, InsideResult, Loaded, Nests, Outcome, OutsideResult, Plain, Stopped, Stops}
+use Rattle.tm_model.specs.State.{Closed, Core, Halted, Midway, Opened, State, seen_by}
+use Rattle.tm_model.specs.Types.{Aborted, AbortedBy, Begins, Begun, Cause, Committed, Drained, Ends, Event, Fails, Goes}
+use Rattle.tm_model.specs.Types.{GoesOn, Idle, Inside, InsideResult, Loaded, Nests, Outcome, OutsideResult, Plain}
+use Rattle.tm_model.specs.Types.{Stopped, Stops}
 
 -- ---- whom a step hits (SDM volume 1, 16.2.4.2)
 
@@ -50,21 +51,27 @@ IsHitOnCore setting memory loads stores (Opened regs steps) None told =
     IsHitOnBody loads stores (isolated_body setting regs memory steps) told
 IsHitOnCore setting memory loads stores core doom told = told ≡ None
 
--- what is told of the owed step of the core of this number and of another core
-abbrev pub IsHitTold : Setting → State → Doomed → ℕ → ℕ → Option Hit → Type 0
-IsHitTold setting state doomed number other told =
-    let outcome : Outcome = owed_outcome setting state.memory (state.cores number) (doomed number) in
-    IsHitOnCore setting state.memory
-    (addresses_loaded_by setting state.memory (state.cores number) outcome)
-    (addresses_stored_by setting state.memory (state.cores number) outcome)
+-- the outcome that is owed to the core of this number, under an event or under none
+abbrev pub owed_now : Option Event → Setting → State → Doomed → ℕ → Outcome
+owed_now event setting state doomed number =
+    owed_under event setting state.memory (state.pending number) (state.cores number) (doomed number)
+
+-- what is told of such a step of the core of this number and of another core
+abbrev pub IsHitTold : Option Event → Setting → State → Doomed → ℕ → ℕ → Option Hit → Type 0
+IsHitTold event setting state doomed number other told =
+    let outcome : Outcome = owed_now event setting state doomed number in
+    IsHitOnCore setting (seen_by state other)
+    (addresses_loaded_by setting (seen_by state number) (state.cores number) outcome)
+    (addresses_written_by setting state.memory (state.pending number) (state.cores number) outcome)
     (state.cores other) (doomed other) told
 
 -- whatever is told so: the other core is doomed by the step exactly where a hit is told
 abbrev pub HitsCondemn : Type 0
 HitsCondemn =
-    (setting : Setting) (state : State) (doomed : Doomed) (number other : ℕ) (told : Option Hit) →
-    nat_eq other number ≡ false → IsHitTold setting state doomed number other told →
-    let outcome : Outcome = owed_outcome setting state.memory (state.cores number) (doomed number) in
+    (event : Option Event) (setting : Setting) (state : State) (doomed : Doomed) (number other : ℕ)
+    (told : Option Hit) →
+    nat_eq other number ≡ false → IsHitTold event setting state doomed number other told →
+    let outcome : Outcome = owed_now event setting state doomed number in
     MatchOption told
     (doomed_after setting state doomed number outcome other ≡ doomed other)
     (λ hit. (doomed other ≡ None) × IsSome (doomed_after setting state doomed number outcome other))
@@ -144,6 +151,7 @@ is_abort Idle = false
 is_abort Begun = false
 is_abort Inside = false
 is_abort Committed = false
+is_abort Drained = false
 
 -- the outcome is the abort of this reason's cause, and where there is no reason, it is no abort
 abbrev pub IsReasonOf : Outcome → Option AbortReason → Type 0

@@ -1,6 +1,8 @@
 -- The outcome that is owed by a core's next step: the first of these rules that applies. So no transaction aborts
 -- without its cause, and none that has a cause goes on (SDM volume 1, 16.3.5 and 16.3.8).
-use Rattle.std.specs.Prelude.{ℕ, Bool, ◌&&◌, not, if◌then◌else◌, List, [], ◌++◌, Option, Some, None, nat_eq, nat_lt}
+use Rattle.std.specs.Prelude.{ℕ, Bool, ◌&&◌, not, if◌then◌else◌, List, [], ◌∷◌, ◌++◌, Option, Some, None, nat_eq}
+use Rattle.std.specs.Prelude.{nat_lt}
+use Rattle.std.specs.Prelude.{unwrap_or}
 use Rattle.std.specs.FinSet as set
 use Rattle.tm_status.specs.Status.{status_of}
 use Rattle.tm_status.specs.declared.cause.Cause.TheVariants as cause
@@ -9,8 +11,9 @@ use Rattle.tm_model.specs.declared.outcome.Interference.TheVariants as by
 use Rattle.tm_model.specs.Access.{Lines, Stores, lines_of, stored_addresses, stores_of}
 use Rattle.tm_model.specs.Isolated.{Body, instruction_after, isolated_body}
 use Rattle.tm_model.specs.Setting.{Setting, outside_at}
-use Rattle.tm_model.specs.State.{Closed, Core, Halted, Midway, Opened}
-use Rattle.tm_model.specs.Types.{Aborted, AbortedBy, Begins, Begun, Capacity, Cause, Committed, Conflict, Ends}
+use Rattle.tm_model.specs.State.{Closed, Core, Halted, Midway, Opened, Pending, seen_memory}
+use Rattle.tm_model.specs.Steps.{must_wait}
+use Rattle.tm_model.specs.Types.{Aborted, AbortedBy, Begins, Begun, Capacity, Cause, Committed, Conflict, Drained, Ends}
 use Rattle.tm_model.specs.Types.{Event, Fails, Goes, GoesOn, Idle, Inside, InsideResult, Interference, Loaded, Nests}
 use Rattle.tm_model.specs.Types.{Outcome, OutsideResult}
 use Rattle.tm_model.specs.Types.{Plain, Stopped, Stops}
@@ -68,6 +71,15 @@ owed_outcome setting memory (Closed regs) None =
 owed_outcome setting memory (Opened regs steps) None =
     owed_after setting memory (isolated_body setting regs memory steps)
 
+-- ---- with stores pending
+
+-- the outcome that is owed to what the core sees, or the oldest store reaches memory in its place
+abbrev pub owed_with_pending : Setting → List ℕ → Pending → Core → Option ℕ → Outcome
+owed_with_pending setting memory pending core doom =
+    let seen : List ℕ = seen_memory memory pending in
+    let outcome : Outcome = owed_outcome setting seen core doom in
+    if must_wait setting seen pending core outcome then Drained else outcome
+
 -- ---- a step under an event
 
 -- the cause that the status is made of (SDM volume 1, 16.3.5)
@@ -84,11 +96,17 @@ abbrev pub depth_of : Option Body → ℕ
 depth_of None = 0
 depth_of (Some body) = body.depth
 
--- The transaction of a core that is open and not doomed is aborted, whatever its next instruction: at any time, for
--- reasons that are not the program's (SDM volume 1, 16.3.8). A doomed one aborts by its conflict, and outside of
--- transactions such an event changes nothing that a program sees. Where an event befalls nothing, the core steps.
-abbrev pub owed_under : Option Event → Setting → List ℕ → Core → Option ℕ → Outcome
-owed_under None setting memory core doom = owed_outcome setting memory core doom
-owed_under (Some (event.Abort by)) setting memory (Opened regs steps) None =
-    abort_by by (depth_of (isolated_body setting regs memory steps))
-owed_under (Some (event.Abort by)) setting memory core doom = owed_outcome setting memory core doom
+-- A store that is pending reaches memory at any time, whatever its core is at. The transaction of a core that is open
+-- and not doomed is aborted, whatever its next instruction; a doomed one aborts by its conflict, and outside of
+-- transactions such an event changes nothing that a program sees. There is none where an event befalls nothing.
+abbrev pub outcome_of_event : Option Event → Setting → List ℕ → Pending → Core → Option ℕ → Option Outcome
+outcome_of_event (Some event.Drain) setting memory (oldest ∷ younger) core doom = Some Drained
+outcome_of_event (Some (event.Abort by)) setting memory pending (Opened regs steps) None =
+    Some (abort_by by (depth_of (isolated_body setting regs (seen_memory memory pending) steps)))
+outcome_of_event event setting memory pending core doom = None
+
+-- where an event befalls nothing, the core steps
+abbrev pub owed_under : Option Event → Setting → List ℕ → Pending → Core → Option ℕ → Outcome
+owed_under event setting memory pending core doom =
+    unwrap_or (outcome_of_event event setting memory pending core doom)
+    (owed_with_pending setting memory pending core doom)

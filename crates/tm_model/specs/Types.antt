@@ -14,7 +14,7 @@ pub use Rattle.tm_rule.specs.declared.kinds.InsideResult.{InsideResult}
 pub use Rattle.tm_rule.specs.declared.kinds.InsideResult.TheVariants.{GoesOn, Nests, Ends, Fails}
 pub use Rattle.tm_model.specs.declared.outcome.Outcome.{Outcome}
 pub use Rattle.tm_model.specs.declared.outcome.Outcome.TheVariants.{Plain, Loaded, Stopped, Idle, Begun, Inside}
-pub use Rattle.tm_model.specs.declared.outcome.Outcome.TheVariants.{Committed, Aborted, AbortedBy}
+pub use Rattle.tm_model.specs.declared.outcome.Outcome.TheVariants.{Committed, Aborted, AbortedBy, Drained}
 pub use Rattle.tm_model.specs.declared.outcome.Event.{Event}
 pub use Rattle.tm_model.specs.declared.outcome.Interference.{Interference}
 pub use Rattle.tm_model.specs.declared.outcome.Pick.{Pick}

@@ -38,4 +38,5 @@ both_kinds kinds others = record {
   interrupt = kinds.interrupt || others.interrupt;
   eviction = kinds.eviction || others.eviction;
   snoop = kinds.snoop || others.snoop;
+  drain = kinds.drain || others.drain;
 }

@@ -1,17 +1,17 @@
 //! The kinds of events that may come, and which of them comes.
 //!
-//! One number is drawn among the kinds that are said, in the order interrupt, eviction, snoop; where none is said
-//! there is no event and no number is drawn. Whether a step comes under an event at all is drawn before, in `lot`.
+//! One number is drawn among the kinds that are said, in the order interrupt, eviction, snoop, drain; where none is
+//! said there is no event and no number is drawn. Whether a step comes under an event at all is drawn before, in `lot`.
 
 ghost use Rattle.std.specs.Prelude.{◌≡◌, ◌<◌, ◌≤◌, true};
 ghost use Rattle.tm_pick.specs.Befalls.{kind_at, kind_count, kind_drawn};
 ghost use Rattle.tm_pick.specs.Chances.{words_of};
-ghost use Rattle.tm_pick.specs.Kinds.{IsOfKinds, has_kind, only_kind};
+ghost use Rattle.tm_pick.specs.Kinds.{IsOfKinds, has_event, has_kind, only_kind};
 
 use crate::chance::Chance;
 use tm_model::{Event, Interference};
 
-/// The kinds of aborts from outside of the program that may come. Where none is said, none comes.
+/// The kinds of events that may come: aborts from outside of the program, and drains. Where none is said, none comes.
 #[derive(Clone, Copy, PartialEq, Eq, Debug)]
 pub struct Kinds {
     /// Interrupts.
@@ -20,14 +20,17 @@ pub struct Kinds {
     pub eviction: bool,
     /// Accesses to such lines by what is no core of the machine.
     pub snoop: bool,
+    /// Drains: the oldest store of the core that is pending reaches memory.
+    pub drain: bool,
 }
 
 impl Kinds {
-    /// All of them.
+    /// Each abort from outside of the program.
     pub const ALL: Kinds = Kinds {
         interrupt: true,
         eviction: true,
         snoop: true,
+        drain: false,
     };
 
     /// This one alone.
@@ -38,6 +41,7 @@ impl Kinds {
             interrupt: false,
             eviction: false,
             snoop: false,
+            drain: false,
         };
         match by {
             Interference::Interrupt => Kinds {
@@ -75,29 +79,34 @@ impl Kinds {
         if count == 0 {
             return None;
         }
-        Some(Event::Abort(self.at(chance.below(count))))
+        Some(self.at(chance.below(count)))
     }
 
     // How many they are.
     fn count(self) -> u32
         ensures { result ≡ kind_count self }
     {
-        u32::from(self.interrupt) + u32::from(self.eviction) + u32::from(self.snoop)
+        u32::from(self.interrupt)
+            + u32::from(self.eviction)
+            + u32::from(self.snoop)
+            + u32::from(self.drain)
     }
 
-    // The kind with this index, counted from 0.
+    // An event of the kind with this index, counted from 0.
     #[tactic(auto, using(crate::proofs::EachKind::each_kind))]
-    fn at(self, index: u32) -> Interference
+    fn at(self, index: u32) -> Event
         requires { index < kind_count self }
-        ensures among { has_kind self result ≡ true }
+        ensures among { has_event self result ≡ true }
         ensures value { result ≡ kind_at self index }
     {
         if self.interrupt && index == 0 {
-            Interference::Interrupt
+            Event::Abort(Interference::Interrupt)
         } else if self.eviction && index == u32::from(self.interrupt) {
-            Interference::Eviction
+            Event::Abort(Interference::Eviction)
+        } else if self.snoop && index == u32::from(self.interrupt) + u32::from(self.eviction) {
+            Event::Abort(Interference::Snoop)
         } else {
-            Interference::Snoop
+            Event::Drain
         }
     }
 }

@@ -23,9 +23,10 @@ pub fn is_unseen(program: &Program, machine: &Machine, core: u8) -> bool {
 
 // Whether the next instruction of a core outside of transactions touches no memory.
 fn touches_nothing(program: &Program, machine: &Machine, core: u8) -> bool {
-    let Ok(reach) = machine.reach(core) else {
+    let Ok(preview) = machine.preview(core) else {
         return false;
     };
+    let reach = preview.reach;
     // A stop reaches nothing, and its instruction may have loaded what it stops for.
     reach.load.is_none() && reach.store.is_none() && loads_nothing(program, machine, core)
 }

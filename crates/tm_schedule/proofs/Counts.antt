@@ -87,3 +87,9 @@ count_long n h = length-digits_of_step 10 n (omega arith) h
 
 pub count_none : (n : ℕ) → n ≡ 0 → count_text n ≡ []
 count_none n h = ap count_text h
+
+-- a number that is read digit by digit
+pub ruleset value_steps = (value_step, value_small, digit_at, value_all)
+
+-- a count that is written, or left out
+pub ruleset count_texts = (count_text_step, count_long, count_none)

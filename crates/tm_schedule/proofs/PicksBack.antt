@@ -7,7 +7,7 @@ use Rattle.std.proofs.lemmas.List.{append-nil, length-append}
 use Rattle.text_out.specs.TextLine.{number_text}
 use Rattle.tm_model.specs.declared.outcome.Event.{Event}
 use Rattle.tm_model.specs.declared.outcome.Pick.{Pick}
-use Rattle.tm_model.specs.declared.outcome.Event.TheVariants.{Abort}
+use Rattle.tm_model.specs.declared.outcome.Event.TheVariants.{Abort, Drain}
 use Rattle.tm_model.specs.declared.outcome.Interference.TheVariants.{Interrupt, Eviction, Snoop}
 use Rattle.tm_schedule.specs.declared.schedule.picks.Form.{Form}
 use Rattle.tm_schedule.specs.declared.schedule.picks.Form.TheVariants.{Cores, Picks}
@@ -25,11 +25,13 @@ event_back None = refl
 event_back (Some (Abort Interrupt)) = refl
 event_back (Some (Abort Eviction)) = refl
 event_back (Some (Abort Snoop)) = refl
+event_back (Some Drain) = refl
 
 letter_above : (event : Event) → 42 < event_letter (Some event)
 letter_above (Abort Interrupt) = omega arith
 letter_above (Abort Eviction) = omega arith
 letter_above (Abort Snoop) = omega arith
+letter_above Drain = omega arith
 
 -- ---- the same step
 
@@ -57,6 +59,7 @@ digit_none d h = rw (
   ne_eqb (48 + d) 105 (λ e. omega arith),
   ne_eqb (48 + d) 101 (λ e. omega arith),
   ne_eqb (48 + d) 115 (λ e. omega arith),
+  ne_eqb (48 + d) 100 (λ e. omega arith),
 ) refl
 
 number_none : (n : ℕ) → event_of (slice_index (number_text n) (length (number_text n) - 1)) ≡ None

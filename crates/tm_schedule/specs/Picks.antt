@@ -5,7 +5,7 @@ use Rattle.std.specs.List.{AllByRecursion, list_any}
 use Rattle.text_out.specs.TextLine.{number_text}
 use Rattle.tm_model.specs.declared.outcome.Event.{Event}
 use Rattle.tm_model.specs.declared.outcome.Pick.{Pick}
-use Rattle.tm_model.specs.declared.outcome.Event.TheVariants.{Abort}
+use Rattle.tm_model.specs.declared.outcome.Event.TheVariants.{Abort, Drain}
 use Rattle.tm_model.specs.declared.outcome.Interference.TheVariants.{Interrupt, Eviction, Snoop}
 use Rattle.tm_schedule.specs.declared.schedule.picks.Form.{Form}
 use Rattle.tm_schedule.specs.declared.schedule.picks.Form.TheVariants.{Cores, Picks}
@@ -13,12 +13,13 @@ use Rattle.tm_schedule.specs.ScheduleNumbers.{core_number}
 
 -- ---- reading
 
--- the event of a letter: i, e or s
+-- the event of a letter: i, e, s or d
 abbrev pub event_of : ℕ → Option Event
 event_of letter =
     if letter == 105 then Some (Abort Interrupt)
     else if letter == 101 then Some (Abort Eviction)
     else if letter == 115 then Some (Abort Snoop)
+    else if letter == 100 then Some Drain
     else None
 
 abbrev pub pick_from : Option ℕ → Option Event → Option Pick
@@ -50,6 +51,7 @@ event_letter None = 0
 event_letter (Some (Abort Interrupt)) = 105
 event_letter (Some (Abort Eviction)) = 101
 event_letter (Some (Abort Snoop)) = 115
+event_letter (Some Drain) = 100
 
 abbrev pub event_text : Option Event → List ℕ
 event_text None = []

@@ -59,8 +59,8 @@ impl ScheduleFault {
 /// and at most 255, between spaces and line ends. The second is `schedule 2` alone on the first line, and below it
 /// words `c` and `c*n`, the second of which stands for n times the core c: n has one to eight decimal digits, and is 1
 /// to 16,777,216. The third is `schedule 3` alone on the first line, and below it such words, in which the letter of an
-/// event may stand behind the core number: `i` for an interrupt, `e` for an eviction, `s` for a snoop. A line ends at a
-/// line feed, and a carriage return before it is no part of it.
+/// event may stand behind the core number: `i` for an interrupt, `e` for an eviction, `s` for a snoop, `d` for a drain.
+/// A line ends at a line feed, and a carriage return before it is no part of it.
 ///
 /// [`ScheduleFault::BadSchedule`] names the first line that breaks the form; [`ScheduleFault::TooManySteps`], the line
 /// of the word with which a schedule with runs has more than 16,777,216 steps, before memory for them is taken. Of

@@ -36,6 +36,7 @@ fn event_of(letter: u8) -> Option<Event>
         b'i' => Some(Event::Abort(Interference::Interrupt)),
         b'e' => Some(Event::Abort(Interference::Eviction)),
         b's' => Some(Event::Abort(Interference::Snoop)),
+        b'd' => Some(Event::Drain),
         _ => None,
     }
 }
@@ -50,7 +51,8 @@ fn pick_from(core: Option<u8>, event: Option<Event>) -> Option<Pick>
 }
 
 /// The step that a word says: a core number of one to three decimal digits, at most 255, and behind it `i`, `e` or `s`,
-/// where the step comes under an interrupt, an eviction or a snoop. Nothing, where the word is of another form.
+/// where the step comes under an interrupt, an eviction or a snoop, or `d`, where the oldest store of the core that is
+/// pending reaches memory in its place. Nothing, where the word is of another form.
 #[tactic(auto, unfolding(crate::specs::Picks::pick_of_word))]
 pub fn pick_of_word(word: &[u8]) -> Option<Pick>
     ensures { result ≡ pick_of_word word.now }
@@ -73,6 +75,7 @@ pub fn letter_of(event: Event) -> u8
         Event::Abort(Interference::Interrupt) => b'i',
         Event::Abort(Interference::Eviction) => b'e',
         Event::Abort(Interference::Snoop) => b's',
+        Event::Drain => b'd',
     }
 }
 

@@ -45,7 +45,7 @@ fn digit_of(byte: u8) -> u32
 }
 
 // The number of decimal digits.
-#[tactic(auto, using(crate::proofs::Counts::value_step, crate::proofs::Counts::value_small, crate::proofs::Counts::digit_at, crate::proofs::Counts::value_all))]
+#[tactic(auto, using(crate::proofs::Counts::value_steps))]
 fn value(digits: &[u8]) -> u32
     requires { is_count digits.now ≡ true }
     ensures { result ≡ digits_value 10 digits.now }

@@ -1,4 +1,5 @@
-//! Writing steps as runs.
+//! Steps are written as a schedule: steps of one core side by side are one word, sixteen words a line. The title says
+//! which form, and is written first, so it has to be known before whether a step may come under an event.
 
 ghost use Rattle.std.specs.Prelude.{◌≡◌, ◌+◌, ◌<◌, ◌≤◌, ◌++◌, ◌∷◌, ◌==◌, [], false, if◌then◌else◌, Ok, length};
 ghost use Rattle.arrayvec.specs.ArrayVec.{array_vec_len};
@@ -24,7 +25,7 @@ use tm_model::{Event, Pick};
 pub const WORDS_A_LINE: u8 = 16;
 
 // Adds a number in decimal digits, and none for 0.
-#[tactic(auto, using(crate::proofs::Counts::count_text_step, crate::proofs::Counts::count_long, crate::proofs::Counts::count_none))]
+#[tactic(auto, using(crate::proofs::Counts::count_texts))]
 fn push_count(row: &mut TextLine, n: u32)
     requires { array_vec_len row.old + length (digits_of 10 n) ≤ 160 }
     ensures text { row.new.items ≡ row.old.items ++ count_text n }
