@@ -16,7 +16,7 @@ use Rattle.ia_word.specs.Line.{line}
 use Rattle.tm_buffer.specs.Buffer.{BufferValue, IsPartOf, holds}
 use Rattle.tm_model.specs.Setting.{Setting, setting_of}
 use Rattle.tm_model.specs.Shown.{View, ViewsStandFor, view_between, view_outside}
-use Rattle.tm_model.specs.State.{State}
+use Rattle.tm_model.specs.State.{Pending, State}
 use Rattle.tm_sets.specs.Content.{Content, Fixed}
 use Rattle.tm_core.specs.Copying.{IsWritten}
 use Rattle.tm_core.specs.Machine.{IsMachine, shown_by, views_list}
@@ -25,6 +25,7 @@ use Rattle.tm_core.specs.Representation.{is_open, kept_at, parts_setting}
 use Rattle.tm_core.specs.Theorem.{SameMachine, ShownMachine, StandsFor, machine_setting, no_regs, view_at}
 use Rattle.tm_core.specs.Types.{AtStop, Condemned, CoreState, Mid, Open, Read, Running, Write}
 use Rattle.tm_core.proofs.MachineLemmas.{length-views_list, view_at_is, written_back}
+use Rattle.tm_core.proofs.StepTheorem.{none_pending}
 use Rattle.tm_core.specs.declared.cpu.Cpu.{Cpu}
 
 -- ---- a buffer's lines, one after another
@@ -132,8 +133,8 @@ module _ (a b d : Content) (code their_code : List ℕ) (base their_base : ℕ) 
 
   rules_here : machine_setting new ≡ machine_setting old
   rules_here =
-      ap (λ n. setting_of code base n (b.fixed.room Read) (b.fixed.room Write)) same_size
-      ∙ ap (λ (x : Fixed). setting_of code base (length m) (x.room Read) (x.room Write)) fixed
+      ap (λ n. setting_of code base n (b.fixed.room Read) (b.fixed.room Write) 0) same_size
+      ∙ ap (λ (x : Fixed). setting_of code base (length m) (x.room Read) (x.room Write) 0) fixed
       ∙ ap machine_setting shown
 
   pub same_copied : SameMachine old back
@@ -171,11 +172,13 @@ module _ (a b d : Content) (code their_code : List ℕ) (base their_base : ℕ) 
   pub stands_copied : (st : State) (doomed : ℕ → Option ℕ) → StandsFor other st doomed → StandsFor back st doomed
   stands_copied st doomed h =
       subst (λ (vs : List View). ViewsStandFor (machine_setting back) (length vs) back.memory
-      (λ n. get_or vs n (view_outside Running no_regs)) st doomed) (sym views_copied)
-      (subst (λ x. ViewsStandFor (machine_setting back) (length other.views) x (view_at other) st doomed)
+      (λ n. get_or vs n (view_outside Running no_regs)) none_pending st doomed) (sym views_copied)
+      (subst (λ x. ViewsStandFor (machine_setting back) (length other.views) x (view_at other) none_pending st doomed)
       (sym memory_copied)
-      (subst (λ (k : Setting). ViewsStandFor k (length other.views) other.memory (view_at other) st doomed)
-      (sym rules_there) h))
+      (subst (λ (k : Setting). ViewsStandFor k (length other.views) other.memory (view_at other) none_pending st doomed)
+      (sym rules_there)
+      (subst (λ (ps : List Pending). ViewsStandFor (machine_setting other) (length other.views) other.memory
+      (view_at other) (λ n. get_or ps n []) st doomed) (ap (λ (x : ShownMachine). x.pending) (sym their_shown)) h)))
 
   module _ (rows their_rows : List (Result (Insn × ℕ) DecodeFault)) (lines their_lines : List FlatAt)
       (busy their_busy : Bool)

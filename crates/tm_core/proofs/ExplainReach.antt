@@ -13,19 +13,19 @@ use Rattle.tm_model.specs.Isolated.{Body, instruction_after, isolated_body, read
 use Rattle.tm_model.specs.Owed.{abort_at, have_room, owed_after, owed_inside, owed_outcome, owed_outside}
 use Rattle.tm_model.specs.Setting.{Setting, outside_at}
 use Rattle.tm_model.specs.Shown.{View, view_between, view_inside, view_midway, view_of, view_of_body, view_outside}
-use Rattle.tm_model.specs.State.{Closed, Core, Halted, Midway, Opened, State}
+use Rattle.tm_model.specs.State.{Closed, Core, Halted, Midway, Opened, State, seen_by}
 use Rattle.tm_core.specs.declared.cpu.Cpu.{Cpu}
 use Rattle.tm_core.specs.ExplainedViews.{Reached, reach_inside, reach_outside, reach_shown, reach_told}
 use Rattle.tm_core.specs.Machine.{shown_by}
 use Rattle.tm_core.specs.Representation.{cpu_at, cpu_views, parts_setting}
 use Rattle.tm_core.specs.StepRefinement.{add_all, seen}
 use Rattle.tm_core.specs.Theorem.{StandsFor}
-use Rattle.tm_core.specs.Types.{Aborted, AbortedBy, Access, AtStop, Begins, Begun, Capacity, Committed, Condemned, Ends}
-use Rattle.tm_core.specs.Types.{Fails}
+use Rattle.tm_core.specs.Types.{Aborted, AbortedBy, Access, AtStop, Begins, Begun, Capacity, Committed, Condemned}
+use Rattle.tm_core.specs.Types.{Drained, Ends, Fails}
 use Rattle.tm_core.specs.Types.{Goes, GoesOn, Idle, Inside, InsideResult, Loaded, Nests, Open, Outcome, OutsideResult}
 use Rattle.tm_core.specs.Types.{Plain, Read, Regs, Running, Stopped, Stops, Write}
 use Rattle.tm_core.proofs.BufferLemmas.{add_all-lines, map_seen}
-use Rattle.tm_core.proofs.MachineLemmas.{length-views_list, view_at_is}
+use Rattle.tm_core.proofs.MachineLemmas.{length-views_list, seen_plain, view_at_is}
 use Rattle.tm_core.proofs.OtherCores.{view_inside_is}
 use Rattle.tm_core.proofs.Sound.{InRange, Sound}
 use Rattle.tm_core.proofs.SteppingCore.{isolated_body-range}
@@ -66,6 +66,7 @@ module _ (k : Setting) (m : List ℕ) (b : Body) where
   by_body body Committed = ([], [])
   by_body body (Aborted status) = ([], [])
   by_body body (AbortedBy by status) = ([], [])
+  by_body body Drained = ([], [])
 
   abbrev instruction_reach : Reached
   instruction_reach = (k.load_of b.regs, addresses_stored_next (instruction_after k m b))
@@ -133,6 +134,7 @@ module _ (k : Setting) (m : List ℕ) (b : Body) where
   by_outcome s n Committed = refl
   by_outcome s n (Aborted status) = refl
   by_outcome s n (AbortedBy by status) = refl
+  by_outcome s n Drained = refl
 
 -- ---- of a state that a machine stands for, what it shows
 
@@ -206,10 +208,10 @@ module _ (a : Content) (code : List ℕ) (base : ℕ) (m : List ℕ) (cpus : Lis
   abbrev setting : Setting
   setting = parts_setting code base (length m) a
 
-  size : length st.memory ≡ setting.size
-  size = ap length (sym stands.same_memory)
+  seen_is : (c : ℕ) → c < length cpus → m ≡ seen_by st c
+  seen_is = seen_plain a code base m cpus st d stands
 
-  shows : (c : ℕ) → c < length cpus → view_of setting st.memory (st.cores c) (d c) ≡ Some (cpu_views a cpus c)
+  shows : (c : ℕ) → c < length cpus → view_of setting (seen_by st c) (st.cores c) (d c) ≡ Some (cpu_views a cpus c)
   shows c below =
       stands.each c (subst (λ n. c < n) (sym (length-views_list a 0 cpus)) below)
       ∙ ap Some (view_at_is a code base m cpus c below)
@@ -217,14 +219,15 @@ module _ (a : Content) (code : List ℕ) (base : ℕ) (m : List ℕ) (cpus : Lis
   -- what is told is what the model says
   pub machine_reach : (c : ℕ) → c < length cpus
       → (told : Reach) → reach_told told ≡ reach_shown setting m (cpu_views a cpus c) (cpu_at cpus c).state
-      → IsReachTold setting st.memory (st.cores c) (d c) told
+      → IsReachTold setting (seen_by st c) (st.cores c) (d c) told
   machine_reach c below told e =
       let same :
-      reach_told told ≡ reach_by setting st.memory (st.cores c) (owed_outcome setting st.memory (st.cores c) (d c)) =
+      reach_told told
+      ≡ reach_by setting (seen_by st c) (st.cores c) (owed_outcome setting (seen_by st c) (st.cores c) (d c)) =
       e
-      ∙ ap (λ n. reach_shown setting n (cpu_views a cpus c) (cpu_at cpus c).state) stands.same_memory
-      ∙ sym (reach_is setting (sound code base (length m) (a.fixed.room Read) (a.fixed.room Write)) st.memory size
-      (st.cores c) (d c) (cpu_views a cpus c) (shows c below)) in record {
+      ∙ ap (λ n. reach_shown setting n (cpu_views a cpus c) (cpu_at cpus c).state) (seen_is c below)
+      ∙ sym (reach_is setting (sound code base (length m) (a.fixed.room Read) (a.fixed.room Write) 0) (seen_by st c)
+      (ap length (sym (seen_is c below))) (st.cores c) (d c) (cpu_views a cpus c) (shows c below)) in record {
         loads = ap (λ (p : Reached). p.0) same;
         stores = ap (λ (p : Reached). p.1) same;
       }

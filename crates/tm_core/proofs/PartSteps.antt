@@ -2,7 +2,6 @@
 use Rattle.std.proofs.Common.{◌≡◌, ◌<◌, ℕ, List, [], length, set, cond, eqb, true, false, refl, sym, ◌∙◌, subst}
 use Rattle.std.proofs.Common.{length-set}
 use Rattle.tm_sets.specs.Content.{Content}
-use Rattle.tm_model.specs.Shown.{View}
 use Rattle.tm_core.specs.declared.cpu.Cpu.{Cpu}
 use Rattle.tm_core.specs.Representation.{Elsewhere, IsHeld, cpu_at, cpu_view, cpu_views, kept_after_hit, kept_at}
 use Rattle.tm_core.specs.Representation.{kept_of, parts_setting}

@@ -17,7 +17,7 @@ use Rattle.tm_core.specs.Machine.{shown_by}
 use Rattle.tm_core.specs.Previewed.{IsPreview}
 use Rattle.tm_core.specs.Representation.{AreLines, cpu_at, cpu_views, is_open, parts_setting}
 use Rattle.tm_core.specs.StepRefinement.{stepped}
-use Rattle.tm_core.specs.Theorem.{ShownMachine, StandsFor, machine_setting, view_at}
+use Rattle.tm_core.specs.Theorem.{ShownMachine, StandsFor, machine_setting, seen_at, view_at}
 use Rattle.tm_core.specs.Types.{Write}
 use Rattle.tm_core.proofs.ExplainMachine.{machine_hit}
 use Rattle.tm_core.proofs.ExplainStates.{IsTold}
@@ -28,7 +28,8 @@ use Rattle.tm_core.proofs.MachineLemmas.{length-views_list, view_at_is}
 abbrev pub IsTouched : ShownMachine → ℕ → Touches → Type 0
 IsTouched machine number touched =
     touched_told (view_at machine number).writes touched
-    ≡ (stepped (machine_setting machine) machine.memory (view_at machine number) (view_at machine number).mode).touched
+    ≡ (stepped (machine_setting machine) (seen_at machine number) (view_at machine number)
+    (view_at machine number).mode).touched
 
 module _ (a : Content) (code : List ℕ) (base : ℕ) (m : List ℕ) (cpus : List Cpu) where
   abbrev k : Setting
@@ -77,12 +78,12 @@ module _ (a : Content) (code : List ℕ) (base : ℕ) (m : List ℕ) (cpus : Lis
     module _ (st : State) (d : ℕ → Option ℕ) (stands : StandsFor (shown_by a code base m cpus) st d) (other : ℕ)
         (beside : other < length cpus) where
       pub hit_told : (told : Option Hit) → IsTold (touched_told (a.lines p.core Write) p.touched) (cpu_views a cpus
-          other) told → IsHitTold k st d p.core other told
+          other) told → IsHitTold None k st d p.core other told
       hit_told told h =
           machine_hit a code base m cpus st d stands p.core other below beside told
           (subst (λ touched. IsTold touched (cpu_views a cpus other) told) touches h)
 
-      pub untouched : p.touched ≡ Nothing → IsHitTold k st d p.core other None
+      pub untouched : p.touched ≡ Nothing → IsHitTold None k st d p.core other None
       untouched none =
           hit_told None
           (subst (λ t. IsTold (touched_told (a.lines p.core Write) t) (cpu_views a cpus other) None) (sym none)
@@ -90,7 +91,8 @@ module _ (a : Content) (code : List ℕ) (base : ℕ) (m : List ℕ) (cpus : Lis
 
   -- a core that is in no open transaction is hit by none
   pub closed_hit : (st : State) (d : ℕ → Option ℕ) → StandsFor (shown_by a code base m cpus) st d → (c other : ℕ) →
-      c < length cpus → other < length cpus → is_open (cpu_at cpus other).state ≡ false → IsHitTold k st d c other None
+      c < length cpus → other < length cpus → is_open (cpu_at cpus other).state ≡ false
+      → IsHitTold None k st d c other None
   closed_hit st d stands c other below beside closed =
       machine_hit a code base m cpus st d stands c other below beside None
       (record { closed = λ _. refl; opened = λ opened. absurd (true≢false (sym opened ∙ closed)) })

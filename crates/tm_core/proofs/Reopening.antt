@@ -88,7 +88,7 @@ module _ (p : Program) (old : ShownMachine) (a b : Content) (code : List ℕ) (b
       (subst (λ x. SameMachine (shown_by a code base m cpus) (shown_by b code base x cores_back)) (sym written)
       (subst (λ x. SameMachine (shown_by a code base m cpus) (shown_by b code base m2 x)) (sym in_place)
       (record {
-        rules = ap (λ n. setting_of code base n (b.fixed.room Read) (b.fixed.room Write)) same_size
-            ∙ ap (λ (x : Fixed). setting_of code base (length m) (x.room Read) (x.room Write)) fixed;
+        rules = ap (λ n. setting_of code base n (b.fixed.room Read) (b.fixed.room Write) 0) same_size
+            ∙ ap (λ (x : Fixed). setting_of code base (length m) (x.room Read) (x.room Write) 0) fixed;
         cores = length-views_list b 0 cpus2 ∙ as_many ∙ sym (length-views_list a 0 cpus);
       })))

@@ -33,11 +33,11 @@ use Rattle.tm_core.proofs.OtherCores.{view_inside_at, view_inside_is}
 use Rattle.tm_core.proofs.Sound.{InRange, Sound}
 use Rattle.tm_core.specs.StepRefinement.{loaded, ran_on, stored}
 
--- what a right step of core x under an event, or under none, does: the owed outcome, a step that the rules allow, and
--- the core's own view after it
+-- what a right step of core x under an event, or under none, does, where no store is pending: the owed outcome, a step
+-- that the rules allow, and the core's own view after it
 pub record Own (event : Option Event) (k : Setting) (m : List ℕ) (x : Core) (dx : Option ℕ)
     (r : StepResult) : Type 0 where
-  pub owes : r.outcome ≡ owed_under event k m x dx
+  pub owes : r.outcome ≡ owed_under event k m [] x dx
   pub next : Core
   pub stores : Stores
   pub moves : after_step_of k m x r.outcome ≡ Some (memory_after m stores, next)
@@ -352,11 +352,10 @@ own k sound m size (Opened s n) None v e =
 
 -- ---- under an event
 
--- where the event aborts nothing
-as_event : (by : Interference) (k : Setting) (m : List ℕ) (x : Core) (dx : Option ℕ) (r : StepResult)
-    → owed_under (Some (event.Abort by)) k m x dx ≡ owed_outcome k m x dx → Own None k m x dx r
-    → Own (Some (event.Abort by)) k m x dx r
-as_event by k m x dx r same o = record {
+-- where the event befalls nothing
+as_event : (event : Option Event) (k : Setting) (m : List ℕ) (x : Core) (dx : Option ℕ) (r : StepResult)
+    → owed_under event k m [] x dx ≡ owed_outcome k m x dx → Own None k m x dx r → Own event k m x dx r
+as_event event k m x dx r same o = record {
   owes = o.owes ∙ sym same;
   next = o.next;
   stores = o.stores;
@@ -395,30 +394,33 @@ between_is s value (Stops x) v e = cc
 pub own_under : (event : Option Event) (k : Setting) → Sound k → (m : List ℕ) → length m ≡ k.size → (x : Core)
     (dx : Option ℕ) (v : View) → view_of k m x dx ≡ Some v → Own event k m x dx (stepped_under event k m v v.mode)
 own_under None k sound m size x dx v e = own k sound m size x dx v e
+own_under (Some event.Drain) k sound m size x dx v e =
+    as_event (Some event.Drain) k m x dx (stepped k m v v.mode) refl (own k sound m size x dx v e)
 own_under (Some (event.Abort by)) k sound m size (Closed s) None v e =
     subst
     (λ (u : View). Own (Some (event.Abort by)) k m (Closed s) None (stepped_under (Some (event.Abort by)) k m u u.mode))
     (same_Some (view_outside Running s) v e)
-    (as_event by k m (Closed s) None (stepped k m (view_outside Running s) Running) refl
+    (as_event (Some (event.Abort by)) k m (Closed s) None (stepped k m (view_outside Running s) Running) refl
     (own k sound m size (Closed s) None (view_outside Running s) refl))
 own_under (Some (event.Abort by)) k sound m size (Closed s) (Some depth) v e = cc
 own_under (Some (event.Abort by)) k sound m size (Midway s value) None v e =
     let between : view_between s value ≡ v = between_is s value (k.outside s value) v e in
     subst (λ (u : View). Own (Some (event.Abort by)) k m (Midway s value) None
     (stepped_under (Some (event.Abort by)) k m u u.mode)) between
-    (as_event by k m (Midway s value) None (stepped k m (view_between s value) Mid) refl
+    (as_event (Some (event.Abort by)) k m (Midway s value) None (stepped k m (view_between s value) Mid) refl
     (own k sound m size (Midway s value) None (view_between s value) (e ∙ ap Some (sym between))))
 own_under (Some (event.Abort by)) k sound m size (Midway s value) (Some depth) v e = cc
 own_under (Some (event.Abort by)) k sound m size (Halted s x) None v e =
     subst (λ (u : View). Own (Some (event.Abort by)) k m (Halted s x) None
     (stepped_under (Some (event.Abort by)) k m u u.mode)) (same_Some (view_outside (AtStop x) s) v e)
-    (as_event by k m (Halted s x) None (stepped k m (view_outside (AtStop x) s) (AtStop x)) refl
+    (as_event (Some (event.Abort by)) k m (Halted s x) None (stepped k m (view_outside (AtStop x) s) (AtStop x)) refl
     (own k sound m size (Halted s x) None (view_outside (AtStop x) s) refl))
 own_under (Some (event.Abort by)) k sound m size (Halted s x) (Some depth) v e = cc
 own_under (Some (event.Abort by)) k sound m size (Opened s n) (Some depth) v e =
     subst (λ (u : View). Own (Some (event.Abort by)) k m (Opened s n) (Some depth)
     (stepped_under (Some (event.Abort by)) k m u u.mode)) (same_Some (view_outside (Condemned depth) s) v e)
-    (as_event by k m (Opened s n) (Some depth) (stepped k m (view_outside (Condemned depth) s) (Condemned depth)) refl
+    (as_event (Some (event.Abort by)) k m (Opened s n) (Some depth)
+    (stepped k m (view_outside (Condemned depth) s) (Condemned depth)) refl
     (own k sound m size (Opened s n) (Some depth) (view_outside (Condemned depth) s) refl))
 own_under (Some (event.Abort by)) k sound m size (Opened s n) None v e =
     option_and_then_some (view_inside s) (isolated_body k s m n) v e (λ b is e2.

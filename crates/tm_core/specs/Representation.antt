@@ -19,8 +19,9 @@ use Rattle.tm_core.specs.declared.transaction.InsideStep.TheVariants.{Aborts, Co
 use Rattle.tm_core.specs.StepRefinement.{StepResult, Touched, finished, lines_hit, stayed, stepped, stepped_under}
 use Rattle.tm_core.specs.StepRefinement.{touched_by, views_after}
 use Rattle.tm_core.specs.Theorem.{no_regs}
-use Rattle.tm_core.specs.Types.{Aborted, AbortedBy, Access, AtStop, Begun, Committed, Condemned, CoreState, Event, Idle}
-use Rattle.tm_core.specs.Types.{Inside, Kind}
+use Rattle.tm_core.specs.Types.{Aborted, AbortedBy, Access, AtStop, Begun, Committed, Condemned, CoreState, Drained}
+use Rattle.tm_core.specs.Types.{Event}
+use Rattle.tm_core.specs.Types.{Idle, Inside, Kind}
 use Rattle.tm_core.specs.Types.{Lines}
 use Rattle.tm_core.specs.Types.{Open}
 use Rattle.tm_core.specs.Types.{Loaded, Mid, Outcome, Plain, Read, Regs, Running, Stopped}
@@ -150,9 +151,14 @@ pub record Elsewhere (before after : Content) (number : ℕ) : Type 0 where
   pub slots : (other : ℕ) → (nat_eq other number ≡ true → ⊥) → after.slots other ≡ before.slots other
   pub fixed : after.fixed ≡ before.fixed
 
+-- where at most so many stores of a core are pending
+abbrev pub setting_with : List ℕ → ℕ → ℕ → Content → ℕ → Setting
+setting_with code base size content most =
+    setting_of code base size (content.fixed.room Read) (content.fixed.room Write) most
+
+-- and where none may be
 abbrev pub parts_setting : List ℕ → ℕ → ℕ → Content → Setting
-parts_setting code base size content =
-    setting_of code base size (content.fixed.room Read) (content.fixed.room Write)
+parts_setting code base size content = setting_with code base size content 0
 
 -- each line begins below the memory's end
 abbrev pub AreLines : Lines → ℕ → Type 0
@@ -201,6 +207,7 @@ has_begun Inside = false
 has_begun Committed = false
 has_begun (Aborted status) = false
 has_begun (AbortedBy by status) = false
+has_begun Drained = false
 
 -- ---- a step, by its parts
 

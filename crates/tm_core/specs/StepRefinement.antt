@@ -1,5 +1,5 @@
--- What a step does to what a machine shows: memory, and the views of the cores. It is no part of what is promised: the
--- proofs show that it is the owed step.
+-- What a step does to what a machine shows: memory, and the views of the cores, where no store is pending. It is no
+-- part of what is promised: the proofs show that it is the owed step.
 use Rattle.std.specs.Prelude.{Option, Some, None, ℕ, ◌+◌, ◌-◌, Bool, ◌||◌, List, [], ◌∷◌, ◌++◌, if◌then◌else◌, map}
 use Rattle.std.specs.Prelude.{slice_index}
 use Rattle.std.specs.Prelude.{unwrap_or, nat_eq}
@@ -192,9 +192,10 @@ quit_by by setting memory view status = record {
   touched = [];
 }
 
--- a step under an event, or under none
+-- a step under an event, or under none; there is nothing to drain
 abbrev pub stepped_under : Option Event → Setting → List ℕ → View → CoreState → StepResult
 stepped_under None setting memory view mode = stepped setting memory view mode
+stepped_under (Some event.Drain) setting memory view mode = stepped setting memory view mode
 stepped_under (Some (event.Abort by)) setting memory view (Open depth) =
     quit_by by setting memory view (status_at (cause_of_interference by) depth)
 stepped_under (Some (event.Abort by)) setting memory view mode = stepped setting memory view mode

@@ -1,6 +1,7 @@
--- What a machine promises. It stands for a state of one flat memory with its doomed cores, and so it does after each
--- step: the step is one of that memory, on which each committed transaction ran alone at its XEND (SDM volume 1,
--- 16.2.1), with the outcome that is owed. What each of these words means stands in tm_model.
+-- What a machine promises. It stands for a state of one flat memory, with the stores of each core that are not in it
+-- yet and with its doomed cores, and so it does after each step: the step is one of memory as its core sees it, on
+-- which each committed transaction ran alone at its XEND (SDM volume 1, 16.2.1) with no store pending, or it is a
+-- drain, and it has the outcome that is owed. What each of these words means stands in tm_model.
 use Rattle.std.specs.Prelude.{◌≡◌, ℕ, zero, suc, ◌<◌, List, [], ◌∷◌, ◌++◌, All, length, slice_index_or, Option, Some}
 use Rattle.std.specs.Prelude.{None}
 use Rattle.ia_image.specs.Program.{ProgramValue as Program}
@@ -12,7 +13,7 @@ use Rattle.tm_model.specs.Conflicts.{Doomed, doomed_after}
 use Rattle.tm_model.specs.Runs.{AreOwed, IsOwedUnder, TellNoAbort, doomed_at_end}
 use Rattle.tm_model.specs.Setting.{Setting, setting_of}
 use Rattle.tm_model.specs.Shown.{View, ViewsStandFor, body_alone, view_outside, view_with_body}
-use Rattle.tm_model.specs.State.{State, opening_state}
+use Rattle.tm_model.specs.State.{Pending, State, opening_state, seen_memory}
 use Rattle.tm_model.specs.Steps.{run, step}
 use Rattle.tm_core.specs.Types.{AtStop, Begun, Committed, Condemned, CoreState, Event, Inside, Mid, Open, Outcome}
 use Rattle.tm_core.specs.Types.{Plain, Regs, Running}
@@ -26,12 +27,15 @@ pub record ShownMachine : Type 0 where
   pub base : ℕ  -- the address of the first byte of the code
   pub read_lines : ℕ  -- the most lines of a read set
   pub write_lines : ℕ  -- the most lines of a write set
+  pub store_buffer : ℕ  -- the most stores of a core that are pending
   pub memory : List ℕ
   pub views : List View  -- of each core
+  pub pending : List Pending  -- of each core, the oldest store first; where none may be, the list is empty
 
 abbrev pub machine_setting : ShownMachine → Setting
 machine_setting machine =
     setting_of machine.code machine.base (length machine.memory) machine.read_lines machine.write_lines
+    machine.store_buffer
 
 -- where there is no such core
 abbrev pub no_regs : Regs
@@ -39,6 +43,14 @@ no_regs = record { gpr = []; flags = record { 0 = 0 }; eip = 0 }
 
 abbrev pub view_at : ShownMachine → ℕ → View
 view_at machine number = slice_index_or machine.views number (view_outside Running no_regs)
+
+-- the stores of a core that are pending
+abbrev pub pending_at : ShownMachine → ℕ → Pending
+pending_at machine number = slice_index_or machine.pending number []
+
+-- memory as a core sees it
+abbrev pub seen_at : ShownMachine → ℕ → List ℕ
+seen_at machine number = seen_memory machine.memory (pending_at machine number)
 
 abbrev pub lines_shown : View → Kind → Lines
 lines_shown view Read = view.reads
@@ -49,7 +61,8 @@ lines_shown view Write = view.writes
 -- the machine stands for a state and its doomed cores
 abbrev pub StandsFor : ShownMachine → State → Doomed → Type 0
 StandsFor machine state doomed =
-    ViewsStandFor (machine_setting machine) (length machine.views) machine.memory (view_at machine) state doomed
+    ViewsStandFor (machine_setting machine) (length machine.views) machine.memory (view_at machine) (pending_at machine)
+    state doomed
 
 -- a step of the core of this number under an event, or under none, is owed and allowed, and the machine then stands for
 -- what follows
@@ -60,7 +73,8 @@ pub record TakesStepUnder (event : Option Event) (before after : ShownMachine) (
   pub is_step : step (machine_setting before) state number outcome ≡ Some next
   pub stands : StandsFor after next (doomed_after (machine_setting before) state doomed number outcome)
 
--- the same under no event: each abort has its cause in the program
+-- The same under no event: each abort has its cause in the program, and a store reaches memory where the step waits for
+-- that.
 abbrev pub TakesStep : ShownMachine → ShownMachine → State → Doomed → ℕ → Outcome → Type 0
 TakesStep before after state doomed number outcome = TakesStepUnder None before after state doomed number outcome
 
@@ -132,8 +146,8 @@ condemned_depth (Condemned depth) = Some depth
 condemned_depth (AtStop stop) = None
 
 -- A machine's history from a program's start, with the bodies as they went at their own cores' steps: what it shows
--- of each core is of this body, and where the core is not condemned, this is its body run by itself on memory as it
--- is now.
+-- of each core is of this body, and where the core is not condemned, this is its body run by itself on memory as its
+-- core sees it now.
 pub record WentWithBodies (start now : ShownMachine) (program : Program) (history : List (ℕ × Outcome)) : Type 0 where
   pub end : StateWithBodies
   pub goes : run_with_bodies (machine_setting start) (opening_with_bodies program) history ≡ Some end
@@ -144,7 +158,7 @@ pub record WentWithBodies (start now : ShownMachine) (program : Program) (histor
       (condemned_depth (view_at now number).mode)
       ≡ Some (view_at now number)
   pub by_itself : (number : ℕ) → number < length now.views → condemned_depth (view_at now number).mode ≡ None →
-      end.bodies number ≡ body_alone (machine_setting start) now.memory (end.state.cores number)
+      end.bodies number ≡ body_alone (machine_setting start) (seen_at now number) (end.state.cores number)
   pub same_run : run (machine_setting start) (opening_state program) history ≡ Some end.state
 
 -- whatever the program and the history

@@ -3,7 +3,7 @@ pub use Rattle.tm_model.specs.Types.{Width, B, D, Regs, Access, Store, Cause, Co
 pub use Rattle.tm_model.specs.Types.{OutsideResult, Goes, Begins, Stops, InsideResult, GoesOn, Nests, Ends, Fails}
 pub use Rattle.tm_model.specs.declared.outcome.Outcome.{Outcome}
 pub use Rattle.tm_model.specs.declared.outcome.Outcome.TheVariants.{Plain, Loaded, Stopped, Idle, Begun, Inside}
-pub use Rattle.tm_model.specs.declared.outcome.Outcome.TheVariants.{Committed, Aborted, AbortedBy}
+pub use Rattle.tm_model.specs.declared.outcome.Outcome.TheVariants.{Committed, Aborted, AbortedBy, Drained}
 pub use Rattle.tm_model.specs.declared.outcome.Event.{Event}
 pub use Rattle.tm_model.specs.declared.outcome.Interference.{Interference}
 pub use Rattle.tm_model.specs.declared.outcome.CoreState.{CoreState}

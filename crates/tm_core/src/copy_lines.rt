@@ -112,6 +112,7 @@ impl<S: Sets> Machine<S> {
         ensures same { SameMachine self.old self.new }
         ensures memory { IsTrue result → self.new.memory ≡ other.now.memory }
         ensures views { IsTrue result → self.new.views ≡ other.now.views }
+        ensures pending { IsTrue result → self.new.pending ≡ other.now.pending }
         ensures stands { IsTrue result → (state : State) (doomed : Doomed) → StandsFor other.now state doomed →
             StandsFor self.new state doomed }
         ensures none { result ≡ false → self.new ≡ self.old }

@@ -11,9 +11,8 @@
 //!
 //! A step is explained by calls that are asked before it, and that change nothing: `Machine::preview` (which bytes it
 //! loads and stores, and why it is an abort), `Machine::hit_by` (whom a previewed step hits, on which line),
-//! `Machine::may_hit` (whether it may hit anybody) and `Machine::counts` (how large the sets are). `Machine::hit`,
-//! `Machine::abort_reason` and `Machine::reach` tell one thing of a preview of their own. `Machine::seen` tells a byte
-//! of memory as a core sees it, `Machine::kept` the value between the two steps of an instruction, and
+//! `Machine::may_hit` (whether it may hit anybody) and `Machine::counts` (how large the sets are). `Machine::seen`
+//! tells a byte of memory as a core sees it, `Machine::kept` the value between the two steps of an instruction, and
 //! `Machine::is_core_alike` whether another machine shows a core as this one.
 //!
 //! `Machine::step_under` makes a step under an event: an abort from outside of the program, which hardware may do at
@@ -40,8 +39,8 @@ mod body;
 mod boundary;
 mod conflict;
 mod copy_lines;
+mod counts;
 mod cpu;
-mod explain;
 mod explain_hit;
 mod explain_laws;
 mod explain_reason;
@@ -54,6 +53,7 @@ mod limits;
 mod machine;
 mod on_registers;
 mod opening;
+mod pending;
 mod preview;
 mod reopen;
 mod reopen_lines;

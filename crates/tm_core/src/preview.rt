@@ -7,12 +7,12 @@
 ghost use Rattle.std.specs.Prelude.{◌≡◌, ◌<◌, ℕ, Option, false, length, None, IfOk, IsOk, ◌↔◌};
 ghost use Rattle.tm_model.specs.Explained.{IsHitTold, IsReachTold, abort_reason};
 ghost use Rattle.tm_model.specs.Conflicts.{Doomed};
-ghost use Rattle.tm_model.specs.State.{State};
+ghost use Rattle.tm_model.specs.State.{State, seen_by};
 ghost use Rattle.tm_core.specs.ExplainedViews.{AreWithin, touched_told};
 ghost use Rattle.tm_core.specs.Previewed.{IsPreview};
 ghost use Rattle.tm_core.specs.Representation.{AreLines};
 ghost use Rattle.tm_core.specs.StepRefinement.{stepped};
-ghost use Rattle.tm_core.specs.Theorem.{StandsFor, machine_setting, view_at};
+ghost use Rattle.tm_core.specs.Theorem.{StandsFor, machine_setting, seen_at, view_at};
 
 use crate::explain_hit::hit_touched;
 use crate::fault::NoSuchCore;
@@ -44,15 +44,16 @@ impl<S: Sets> Machine<S> {
     fn foretold(&self, core: u8) -> Foretold
         requires { core < length self.now.views }
         ensures touches { touched_told (view_at self.now core).writes result.touched
-            ≡ (stepped (machine_setting self.now) self.now.memory (view_at self.now core)
+            ≡ (stepped (machine_setting self.now) (seen_at self.now core) (view_at self.now core)
             (view_at self.now core).mode).touched }
         ensures within { AreWithin (length self.now.memory) result.touched }
         ensures written { result.touched ≡ Touches.WriteSet →
             AreLines (view_at self.now core).writes (length self.now.memory) }
         ensures reason { (state : State) (doomed : Doomed) → StandsFor self.now state doomed →
-            result.reason ≡ abort_reason (machine_setting self.now) state.memory (state.cores core) (doomed core) }
+            result.reason
+            ≡ abort_reason (machine_setting self.now) (seen_by state core) (state.cores core) (doomed core) }
         ensures reach { (state : State) (doomed : Doomed) → StandsFor self.now state doomed →
-            IsReachTold (machine_setting self.now) state.memory (state.cores core) (doomed core) result.reach }
+            IsReachTold (machine_setting self.now) (seen_by state core) (state.cores core) (doomed core) result.reach }
     {
         let code = Code {
             bytes: &self.code,
@@ -73,9 +74,11 @@ impl<S: Sets> Machine<S> {
         ensures own { IfOk result (λ preview. preview.core ≡ core) }
         ensures eip { IfOk result (λ preview. preview.eip ≡ (view_at self.now core).regs.eip) }
         ensures reason { IfOk result (λ preview. (state : State) (doomed : Doomed) → StandsFor self.now state doomed →
-            preview.reason ≡ abort_reason (machine_setting self.now) state.memory (state.cores core) (doomed core)) }
+            preview.reason
+            ≡ abort_reason (machine_setting self.now) (seen_by state core) (state.cores core) (doomed core)) }
         ensures reach { IfOk result (λ preview. (state : State) (doomed : Doomed) → StandsFor self.now state doomed →
-            IsReachTold (machine_setting self.now) state.memory (state.cores core) (doomed core) preview.reach) }
+            IsReachTold (machine_setting self.now) (seen_by state core) (state.cores core)
+            (doomed core) preview.reach) }
         ensures made { IfOk result (λ preview. IsPreview self.now preview) }
     {
         let eip = self.regs(core)?.eip;
@@ -99,7 +102,7 @@ impl<S: Sets> Machine<S> {
         ensures own { victim ≡ preview.now.core → IfOk result (λ told. told ≡ None) }
         ensures told { (victim ≡ preview.now.core → ⊥) → IfOk result (λ told. (state : State) (doomed : Doomed) →
             StandsFor self.now state doomed →
-            IsHitTold (machine_setting self.now) state doomed preview.now.core victim told) }
+            IsHitTold None (machine_setting self.now) state doomed preview.now.core victim told) }
     {
         if victim >= self.cores() {
             return Err(NoSuchCore);
@@ -119,7 +122,7 @@ impl<S: Sets> Machine<S> {
         requires { IsPreview self.now preview.now }
         ensures { result ≡ false → (victim : ℕ) → victim < length self.now.views → (victim ≡ preview.now.core → ⊥) →
             (state : State) (doomed : Doomed) → StandsFor self.now state doomed →
-            IsHitTold (machine_setting self.now) state doomed preview.now.core victim None }
+            IsHitTold None (machine_setting self.now) state doomed preview.now.core victim None }
     {
         if !self.busy {
             return false;

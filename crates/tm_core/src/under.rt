@@ -53,8 +53,9 @@ fn abort_by<S: Sets>(
 
 impl<S: Sets> Machine<S> {
     /// One step of a core under an event. Where the core is in a transaction that is not condemned, `Event::Abort`
-    /// aborts it, whatever its next instruction is; anywhere else nothing is befallen, and the step is that of
-    /// [`Machine::step`] (SDM volume 1, 16.3.8). `NoSuchCore` (42) where there is none of this number. Takes no memory.
+    /// aborts it, whatever its next instruction is; anywhere else, and under `Event::Drain`, since no store is pending,
+    /// nothing is befallen, and the step is that of [`Machine::step`] (SDM volume 1, 16.3.8). `NoSuchCore` (42) where
+    /// there is none of this number. Takes no memory.
     pub fn step_under(&mut self, core: u8, event: Event) -> Result<Outcome, NoSuchCore>
         ensures exists { IsOk result ↔ (core < length self.old.views) }
         ensures same { SameMachine self.old self.new }
@@ -66,8 +67,31 @@ impl<S: Sets> Machine<S> {
         ensures err { OnErr result (self.new ≡ self.old) }
     {
         match event {
+            Event::Drain => self.drain(core),
             Event::Abort(by) => self.interfere(core, by),
         }
+    }
+
+    // The law that each machine keeps: no store is pending.
+    fn has_none_pending(&self)
+        ensures { self.now.pending ≡ [] }
+    {
+        let _base = self.base;
+    }
+
+    // One step of a core: no store is pending that could reach memory.
+    fn drain(&mut self, core: u8) -> Result<Outcome, NoSuchCore>
+        ensures exists { IsOk result ↔ (core < length self.old.views) }
+        ensures same { SameMachine self.old self.new }
+        ensures ok { IfOk result (λ outcome. (state : State) (doomed : Doomed) → StandsFor self.old state doomed →
+            TakesStepUnder (Some event.Drain) self.old self.new state doomed core outcome) }
+        ensures run { IfOk result (λ outcome. (start : ShownMachine) (state : State) (doomed : Doomed)
+            (earlier : List (ℕ × Outcome)) → IsRun start self.old state doomed earlier →
+            IsRun start self.new state doomed (earlier ++ (core, outcome) ∷ [])) }
+        ensures err { OnErr result (self.new ≡ self.old) }
+    {
+        self.has_none_pending();
+        self.step(core)
     }
 
     // One step of a core, or the abort of its transaction where it is in one that is not condemned.

@@ -1,6 +1,7 @@
 use Rattle.std.proofs.Common.{◌≡◌, ◌<◌, ℕ, List, length, sym, ap, ◌∙◌, subst}
 use Rattle.tm_sets.specs.Content.{Content}
 use Rattle.tm_model.specs.Explained.{IsReachTold, abort_reason}
+use Rattle.tm_model.specs.State.{seen_by}
 use Rattle.tm_core.specs.declared.cpu.Cpu.{Cpu}
 use Rattle.tm_core.specs.ExplainedViews.{AreWithin}
 use Rattle.tm_core.specs.Representation.{AreLines}
@@ -67,7 +68,7 @@ returns-clause-reason g c st d =
     subst (λ n. c.args.core < n)
     (ap (λ (s : ShownMachine). length s.views) (sym c.self.view_is) ∙ length-views_list a 0 cpus) c.requires in
     subst (λ s. StandsFor s st d → c.foretell.result.reason
-    ≡ abort_reason (machine_setting s) st.memory (st.cores c.args.core) (d c.args.core)) c.self.view_is
+    ≡ abort_reason (machine_setting s) (seen_by st c.args.core) (st.cores c.args.core) (d c.args.core)) c.self.view_is
     (λ stands.
     c.foretell.ensures.reason
     ∙ same_reason a code c.deref.result.now base m c.deref-4.result.now cpus c.deref-5.result.now c.args.core
@@ -84,7 +85,8 @@ returns-clause-reach g c st d =
     let below : c.args.core < length cpus =
     subst (λ n. c.args.core < n)
     (ap (λ (s : ShownMachine). length s.views) (sym c.self.view_is) ∙ length-views_list a 0 cpus) c.requires in
-    subst (λ s. StandsFor s st d → IsReachTold (machine_setting s) st.memory (st.cores c.args.core) (d c.args.core)
+    subst (λ s. StandsFor s st d
+    → IsReachTold (machine_setting s) (seen_by st c.args.core) (st.cores c.args.core) (d c.args.core)
     c.foretell.result.reach) c.self.view_is
     (λ stands.
     machine_reach a code base m cpus st d stands c.args.core below c.foretell.result.reach

@@ -1,4 +1,4 @@
-use Rattle.std.proofs.Common.{◌<◌, ℕ, List, length, sym, ap, ◌∙◌, subst}
+use Rattle.std.proofs.Common.{◌<◌, ℕ, List, None, length, sym, ap, ◌∙◌, subst}
 use Rattle.tm_sets.specs.Content.{Content}
 use Rattle.tm_model.specs.Explained.{IsHitTold}
 use Rattle.tm_core.specs.declared.cpu.Cpu.{Cpu}
@@ -78,6 +78,6 @@ returns-clause-told g c apart st d =
     subst (λ (xs : List Cpu). IsTold (touched_told (a.lines p.core Write) p.touched) (cpu_views a xs c.args.victim)
     c.hit_touched.result) c.deref.ensures.value
     (record { closed = c.hit_touched.ensures.closed; opened = c.hit_touched.ensures.opened apart }) in
-    subst (λ s. StandsFor s st d → IsHitTold (machine_setting s) st d p.core c.args.victim c.hit_touched.result)
+    subst (λ s. StandsFor s st d → IsHitTold None (machine_setting s) st d p.core c.args.victim c.hit_touched.result)
     c.self.view_is (λ stands. hit_told a code base m cpus p is st d stands c.args.victim beside c.hit_touched.result
     told)

@@ -23,7 +23,7 @@ returns-then-not-self g c _ victim exists apart st d =
     ap (λ (s : ShownMachine). length s.views) (sym c.self.view_is) ∙ length-views_list a 0 cpus in
     let here : p.core < length cpus = subst (λ n. p.core < n) count c.requires.exists in
     let beside : victim < length cpus = subst (λ n. victim < n) count exists in
-    subst (λ s. StandsFor s st d → IsHitTold (machine_setting s) st d p.core victim None) c.self.view_is
+    subst (λ s. StandsFor s st d → IsHitTold None (machine_setting s) st d p.core victim None) c.self.view_is
     (λ stands.
     closed_hit a code base m cpus st d stands p.core victim here beside
     (c.self.invariant.quiet c.if-not-self.true victim beside))
@@ -41,5 +41,5 @@ returns-in-Nothing g c _ victim exists apart st d =
     let beside : victim < length cpus =
     subst (λ n. victim < n)
     (ap (λ (s : ShownMachine). length s.views) (sym c.self.view_is) ∙ length-views_list a 0 cpus) exists in
-    subst (λ s. StandsFor s st d → IsHitTold (machine_setting s) st d p.core victim None) c.self.view_is
+    subst (λ s. StandsFor s st d → IsHitTold None (machine_setting s) st d p.core victim None) c.self.view_is
     (λ stands. untouched a code base m cpus p is st d stands victim beside c.in-Nothing.is)

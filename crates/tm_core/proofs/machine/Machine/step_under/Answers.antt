@@ -18,6 +18,10 @@ named old new core r one other same takes =
     subst (λ e. IfOk r (λ outcome. (a : State) (d : ℕ → Option ℕ) → StandsFor old a d
     → TakesStepUnder (Some e) old new a d core outcome)) same takes
 
-pub returns-clause-ok : goal.returns-clause-ok
-returns-clause-ok g c = named c.args.self.now c.interfere.new.self c.args.core c.interfere.result _ c.args.event
-    (grind arith) c.interfere.ensures.ok
+pub returns-in-Drain-clause-ok : goal.returns-in-Drain-clause-ok
+returns-in-Drain-clause-ok g c = named c.args.self.now c.drain.new.self c.args.core c.drain.result _ c.args.event
+    (grind arith) c.drain.ensures.ok
+
+pub returns-in-Abort-clause-ok : goal.returns-in-Abort-clause-ok
+returns-in-Abort-clause-ok g c = named c.args.self.now c.interfere.new.self c.args.core c.interfere.result _
+    c.args.event (grind arith) c.interfere.ensures.ok
