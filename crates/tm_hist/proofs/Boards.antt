@@ -10,7 +10,7 @@ use Rattle.tm_model.specs.Isolated.{Body, isolated_body}
 use Rattle.tm_model.specs.Runs.{AreOwed, doomed_at_end}
 use Rattle.tm_model.specs.Setting.{Setting, program_setting}
 use Rattle.tm_model.specs.Shown.{View, view_between, view_inside, view_midway, view_of, view_of_body, view_outside}
-use Rattle.tm_model.specs.State.{Closed, Core, Halted, Midway, Opened, State, opening_state}
+use Rattle.tm_model.specs.State.{Closed, Core, Halted, Midway, Opened, State, opening_state, seen_by}
 use Rattle.tm_model.specs.Steps.{run}
 use Rattle.tm_core.specs.Theorem.{SameMachine, ShownMachine as Machine, StandsFor, machine_setting as machine_setting}
 use Rattle.tm_core.specs.Theorem.{view_at}
@@ -18,7 +18,7 @@ use Rattle.tm_hist.specs.Board.{IsBoard, IsHistory, ShownBoard, bad_limit, stop_
 use Rattle.tm_hist.specs.History.{pair_of}
 use Rattle.tm_hist.specs.Replay.{IsRefused, IsReplay, Replays, cores_of}
 use Rattle.tm_hist.specs.Serial.{IsStuck, base_of, core_at, stop_of}
-use Rattle.tm_hist.proofs.RunFronts.{run_front, same_run}
+use Rattle.tm_hist.proofs.RunFronts.{flat_opening, none_pending, run_front, same_run}
 use Rattle.tm_model.specs.declared.outcome.Outcome.{Outcome}
 use Rattle.tm_model.specs.declared.outcome.CoreState.{CoreState}
 use Rattle.tm_model.specs.declared.outcome.CoreState.TheVariants.{Running, Condemned, Stopped as AtStop}
@@ -31,7 +31,8 @@ use Rattle.tm_hist.specs.declared.replay.SerialFault.TheVariants.{NotARun, NoMem
 
 pub is_history : (b : ShownBoard) (capacity : ℕ) → IsBoard b capacity → IsHistory b
 is_history b capacity h =
-    let same : machine_setting h.start ≡ program_setting b.program b.limits.read_lines b.limits.write_lines = h.rules in
+    let same : machine_setting h.start ≡ program_setting b.program b.limits.read_lines b.limits.write_lines 0 =
+    h.rules in
     record {
       rules = h.is_run.same.rules ∙ h.rules;
       cores = h.is_run.same.cores ∙ h.cores;
@@ -44,6 +45,17 @@ is_history b capacity h =
           (doomed_at_end k (opening_state b.program) (λ _. None) b.history)) same h.is_run.takes.stands;
     }
 
+-- no store is pending
+pub none_behind : (b : ShownBoard) → (h : IsHistory b) → (j : ℕ) → [] ≡ h.end.pending j
+none_behind b h =
+    none_pending (program_setting b.program b.limits.read_lines b.limits.write_lines 0) b.program b.history h.end refl
+    h.is_run
+
+pub none_now : (b : ShownBoard) (capacity : ℕ) → (h : IsBoard b capacity) → (j : ℕ) → [] ≡ h.is_run.takes.last.pending j
+none_now b capacity h =
+    none_pending (machine_setting h.start) b.program b.history h.is_run.takes.last
+    (ap (λ (k : Setting). k.store_buffer) h.rules) h.is_run.takes.is_run
+
 or_false : (a b : Bool) → (a || b) ≡ false → b ≡ false
 or_false true b e = cc
 or_false false b e = e
@@ -52,7 +64,7 @@ or_false false b e = e
 pub new_board : (p q : Program) (l : Limits) (limit : ℕ) (made : List Pair) (capacity : ℕ) (machine : Machine)
     → q ≡ p → made ≡ [] →
     StandsFor machine (opening_state p) (λ _. None)
-    → machine_setting machine ≡ program_setting p l.read_lines l.write_lines → length machine.views ≡ length p.entries
+    → machine_setting machine ≡ program_setting p l.read_lines l.write_lines 0 → length machine.views ≡ length p.entries
     → bad_limit limit ≡ false → limit ≤ capacity →
     IsBoard (record { program = q; limits = l; limit = limit; history = map pair_of made; machine = machine }) capacity
 new_board p q l limit made capacity machine same none stands rules cores good room =
@@ -98,9 +110,9 @@ restarted p l limit before after history old new made h room none same stands =
 
 -- the run by the rules that ask for no limits
 free_run : (b : ShownBoard)
-    → (h : IsHistory b) → run (program_setting b.program 0 0) (opening_state b.program) b.history ≡ Some h.end
+    → (h : IsHistory b) → run (program_setting b.program 0 0 0) (opening_state b.program) b.history ≡ Some h.end
 free_run b h = sym (same_run (code_of b.program) b.program.base b.program.mem_size b.limits.read_lines
-    b.limits.write_lines b.history (opening_state b.program)) ∙ h.is_run
+    b.limits.write_lines b.history (flat_opening b.program)) ∙ h.is_run
 
 -- what a core shows of its registers before a transaction, and of its stop
 record Shows (x : Core) (v : View) : Type 0 where
@@ -149,8 +161,8 @@ replays b s h r =
     let within : j < length (cores_of s) = omega arith in
     let core : core_at (cores_of s) j ≡ h.end.cores j = r.agrees.each j within ∙ ap (λ (x : State). x.cores j) same in
     subst (λ (x : Core). Shows x (view_at b.machine j)) (sym core)
-    (shows (machine_setting b.machine) h.end.memory (h.end.cores j)
-    (doomed_at_end (program_setting b.program b.limits.read_lines b.limits.write_lines) (opening_state b.program)
+    (shows (machine_setting b.machine) (seen_by h.end j) (h.end.cores j)
+    (doomed_at_end (program_setting b.program b.limits.read_lines b.limits.write_lines 0) (opening_state b.program)
     (λ _. None) b.history j) (view_at b.machine j) (h.stands.each j below)) in
     record {
       memory = r.agrees.memory ∙ ap (λ (x : State). x.memory) same ∙ sym h.stands.same_memory;
@@ -160,8 +172,8 @@ replays b s h r =
     }
 
 never_stuck : (b : ShownBoard) (i : ℕ) → IsHistory b
-    → IsStuck (program_setting b.program 0 0) (opening_state b.program) b.history i → ⊥
-never_stuck b i h stuck = run_front (program_setting b.program 0 0) b.history (i + 1) (opening_state b.program) h.end
+    → IsStuck (program_setting b.program 0 0 0) (opening_state b.program) b.history i → ⊥
+never_stuck b i h stuck = run_front (program_setting b.program 0 0 0) b.history (i + 1) (opening_state b.program) h.end
     (free_run b h) stuck.stuck
 
 pub never_refused : (b : ShownBoard) (fault : SerialFault) → IsHistory b

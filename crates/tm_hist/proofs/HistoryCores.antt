@@ -6,7 +6,7 @@ use Rattle.std.proofs.lemmas.Bool.{cases_Bool}
 use Rattle.std.proofs.lemmas.Bool.Decides.{nat_tests}
 use Rattle.std.proofs.lemmas.Option.{same_Some}
 use Rattle.tm_model.specs.Runs.{picks_of}
-use Rattle.tm_model.specs.Steps.{Change, after_step_of, run, state_with, step}
+use Rattle.tm_model.specs.Steps.{Next, after_step, run, state_with, step}
 use Rattle.tm_model.specs.declared.outcome.Outcome.{Outcome}
 use Rattle.tm_model.specs.declared.outcome.Pick.{Pick}
 use Rattle.tm_hist.specs.Board.{IsHistory, ShownBoard as Board, board_setting}
@@ -15,7 +15,7 @@ use Rattle.tm_model.specs.Setting.{Setting}
 use Rattle.tm_model.specs.State.{State, opening_state}
 
 -- a state's cores are as many behind a step of one of them
-changed : (state next : State) (core : ℕ) (change : Change) →
+changed : (state next : State) (core : ℕ) (change : Option Next) →
     option_map (state_with state core) change ≡ Some next → next.count ≡ state.count
 changed state next core None e = cc
 changed state next core (Some made) e =
@@ -27,7 +27,7 @@ allowed : (k : Setting) (state next : State) (core : ℕ) (outcome : Outcome) �
 allowed k state next core outcome e = elim (cases_Bool (nat_lt core state.count)) [
   | inl below ↦ (
     grind (arith, nat_tests, below),
-    changed state next core (after_step_of k state.memory (state.cores core) outcome) (rw below at e),
+    changed state next core (after_step k state.memory (state.pending core) (state.cores core) outcome) (rw below at e),
   )
   | inr beyond ↦ let none : None ≡ Some next = rw beyond at e in cc
 ]

@@ -25,6 +25,7 @@ use Rattle.tm_status.specs.declared.cause.Cause.TheVariants.{Capacity}
 use Rattle.tm_core.specs.Theorem.{ShownMachine as Machine, StandsFor, TakesStepUnder, machine_setting, view_at}
 use Rattle.tm_hist.specs.Board.{stop_shown}
 use Rattle.tm_hist.proofs.Stops.{IsHalted, is_halted}
+use Rattle.tm_hist.proofs.UnderEvents.{owed_alone, shown_alone}
 
 outside_moves : (two : Bool) (r : OutsideResult) → owed_outside two r ≡ Idle → ⊥
 outside_moves two (Stops x) e = cc
@@ -69,8 +70,9 @@ idle_stops k m (Opened s n) None v e i = absurd (option_and_then_some (view_insi
 
 -- no abort by an event is idle
 idle_stops_under : (event : Option Event) (k : Setting) (m : List ℕ) (x : Core) (dx : Option ℕ) (v : View)
-    → view_of k m x dx ≡ Some v → owed_under event k m x dx ≡ Idle → ShowsStop v
+    → view_of k m x dx ≡ Some v → owed_under event k m [] x dx ≡ Idle → ShowsStop v
 idle_stops_under None k m x dx v e i = idle_stops k m x dx v e i
+idle_stops_under (Some event.Drain) k m x dx v e i = idle_stops k m x dx v e i
 idle_stops_under (Some (event.Abort by)) k m (Opened s n) None v e i = absurd (cc)
 idle_stops_under (Some (event.Abort by)) k m (Opened s n) (Some depth) v e i =
     idle_stops k m (Opened s n) (Some depth) v e i
@@ -79,20 +81,25 @@ idle_stops_under (Some (event.Abort by)) k m (Midway s value) dx v e i = idle_st
 idle_stops_under (Some (event.Abort by)) k m (Halted s why) dx v e i = idle_stops k m (Halted s why) dx v e i
 
 halted_idles : (event : Option Event) (k : Setting) (m : List ℕ) (s : Regs) (why : Stop) (dx : Option ℕ)
-    → owed_under event k m (Halted s why) dx ≡ Idle
+    → owed_under event k m [] (Halted s why) dx ≡ Idle
 halted_idles None k m s why dx = refl
+halted_idles (Some event.Drain) k m s why dx = refl
 halted_idles (Some (event.Abort by)) k m s why dx = refl
 
+-- of a core that has no store pending
 pub idle_exactly : (event : Option Event) (old new : Machine) (a : State) (d : ℕ → Option ℕ) (c : ℕ) (o : Outcome)
-    → StandsFor old a d → c < length old.views → TakesStepUnder event old new a d c o →
+    → [] ≡ a.pending c → StandsFor old a d → c < length old.views → TakesStepUnder event old new a d c o →
     (o ≡ Idle) ↔ ShowsStop (view_at old c)
-idle_exactly event old new a d c o stands below takes = (
-  λ idle. idle_stops_under event (machine_setting old) a.memory (a.cores c) (d c) (view_at old c) (stands.each c below)
-      (sym takes.is_owed ∙ idle),
-  λ shows.
-      let h : IsHalted (a.cores c) (d c) shows.0 =
-      is_halted (machine_setting old) a.memory shows.0 (a.cores c) (d c) (view_at old c)
-      (stands.each c below) shows.1 in
-      takes.is_owed ∙ ap (λ x. owed_under event (machine_setting old) a.memory x (d c)) h.core
-      ∙ halted_idles event (machine_setting old) a.memory h.regs shows.0 (d c),
-)
+idle_exactly event old new a d c o none stands below takes =
+    let k : Setting = machine_setting old in
+    let owes : o ≡ owed_under event k a.memory [] (a.cores c) (d c) =
+    takes.is_owed ∙ owed_alone event k a d c none in
+    let shows : view_of k a.memory (a.cores c) (d c) ≡ Some (view_at old c) =
+    shown_alone k a d c (view_at old c) none (stands.each c below) in (
+      λ idle. idle_stops_under event k a.memory (a.cores c) (d c) (view_at old c) shows (sym owes ∙ idle),
+      λ stop.
+          let h : IsHalted (a.cores c) (d c) stop.0 =
+          is_halted k a.memory stop.0 (a.cores c) (d c) (view_at old c) shows stop.1 in
+          owes ∙ ap (λ x. owed_under event k a.memory [] x (d c)) h.core
+          ∙ halted_idles event k a.memory h.regs stop.0 (d c),
+    )

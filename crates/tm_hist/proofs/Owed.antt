@@ -83,9 +83,9 @@ same_then a b c h k =
 abbrev pub OwedBehind : Option Event → Program → Limits → List (ℕ × Outcome) → ℕ → Outcome → Type 0
 OwedBehind event program limits history core outcome =
     (end : State)
-    → run (program_setting program limits.read_lines limits.write_lines) (opening_state program) history ≡ Some end →
-    IsOwedUnder event (program_setting program limits.read_lines limits.write_lines) end
-    (doomed_at_end (program_setting program limits.read_lines limits.write_lines) (opening_state program) (λ _. None)
+    → run (program_setting program limits.read_lines limits.write_lines 0) (opening_state program) history ≡ Some end →
+    IsOwedUnder event (program_setting program limits.read_lines limits.write_lines 0) end
+    (doomed_at_end (program_setting program limits.read_lines limits.write_lines 0) (opening_state program) (λ _. None)
     history) core outcome
 
 -- one step more, under the event that the next outcome tells of
@@ -104,7 +104,7 @@ first_more board before after n core known made at law so_far same grown owes =
     so_far.same.limits
     (subst (λ (h : List (ℕ × Outcome)). OwedBehind (event_told known) before.program before.limits h core made)
     so_far.history owes)) in
-    let next = owed_next (program_setting board.program board.limits.read_lines board.limits.write_lines)
+    let next = owed_next (program_setting board.program board.limits.read_lines board.limits.write_lines 0)
     (opening_state board.program) (λ _. None) board.history n core known made at law.are_owed behind in
     let count : suc n ≡ n + 1 = omega arith in
     record { same = all; history = pairs ∙ next ∙ ap (λ k. take k board.history) count }

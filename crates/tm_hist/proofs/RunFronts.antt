@@ -1,21 +1,25 @@
 -- A run asks nothing of how many lines a transaction may touch, and the beginnings of a run are runs.
-use Rattle.std.proofs.Common.{◌≡◌, ℕ, zero, suc, cond, ltb, List, [], ◌∷◌, take, Option, Some, None, refl, ap, ◌∙◌}
+use Rattle.std.proofs.Common.{◌≡◌, ℕ, zero, suc, cond, ltb, List, [], ◌∷◌, take, Option, Some, None, refl, sym, ap, ◌∙◌}
 use Rattle.std.specs.Option.{option_and_then, option_map}
+use Rattle.std.proofs.lemmas.Option.{same_Some}
 use Rattle.ia_regs.specs.declared.Regs.{Regs}
 use Rattle.tm_model.specs.Isolated.{isolated_body, longer_body}
 use Rattle.tm_model.specs.Setting.{Setting, setting_of}
-use Rattle.tm_model.specs.State.{Closed, Core, Halted, Midway, Opened, State}
-use Rattle.tm_model.specs.Steps.{after_commit, after_step_of, run, state_with, step}
+use Rattle.ia_image.specs.Program.{ProgramValue as Program}
+use Rattle.tm_model.specs.State.{Closed, Core, Halted, Midway, Opened, State, opening_state}
+use Rattle.tm_model.specs.Steps.{after_commit, after_step_of, run, step}
+use Rattle.tm_model.proofs.WithoutBuffer as without
+use Rattle.tm_model.proofs.WithoutBuffer.{FlatState, flat_run, flat_step, flat_with, of_flat}
 use Rattle.tm_model.specs.declared.outcome.Outcome.{Outcome}
 use Rattle.tm_model.specs.declared.outcome.Outcome.TheVariants.{Plain, Loaded, Stopped, Idle, Begun, Inside, Committed}
-use Rattle.tm_model.specs.declared.outcome.Outcome.TheVariants.{Aborted, AbortedBy}
+use Rattle.tm_model.specs.declared.outcome.Outcome.TheVariants.{Aborted, AbortedBy, Drained}
 
 module _ (code : List ℕ) (base size reads writes : ℕ) where
   abbrev limited : Setting
-  limited = setting_of code base size reads writes
+  limited = setting_of code base size reads writes 0
 
   abbrev free : Setting
-  free = setting_of code base size 0 0
+  free = setting_of code base size 0 0 0
 
   same_body : (s : Regs) (m : List ℕ) (n : ℕ) → isolated_body limited s m n ≡ isolated_body free s m n
   same_body s m zero = refl
@@ -34,6 +38,7 @@ module _ (code : List ℕ) (base size reads writes : ℕ) where
   same_moved m (Midway s value) Committed = refl
   same_moved m (Midway s value) (Aborted status) = refl
   same_moved m (Midway s value) (AbortedBy by status) = refl
+  same_moved m (Midway s value) Drained = refl
   same_moved m (Closed s) (Stopped why) = refl
   same_moved m (Closed s) Idle = refl
   same_moved m (Closed s) Begun = refl
@@ -41,6 +46,7 @@ module _ (code : List ℕ) (base size reads writes : ℕ) where
   same_moved m (Closed s) Committed = refl
   same_moved m (Closed s) (Aborted status) = refl
   same_moved m (Closed s) (AbortedBy by status) = refl
+  same_moved m (Closed s) Drained = refl
   same_moved m (Halted s x) Plain = refl
   same_moved m (Halted s x) Loaded = refl
   same_moved m (Halted s x) (Stopped why) = refl
@@ -50,6 +56,7 @@ module _ (code : List ℕ) (base size reads writes : ℕ) where
   same_moved m (Halted s x) Committed = refl
   same_moved m (Halted s x) (Aborted status) = refl
   same_moved m (Halted s x) (AbortedBy by status) = refl
+  same_moved m (Halted s x) Drained = refl
   same_moved m (Opened s n) Plain = refl
   same_moved m (Opened s n) Loaded = refl
   same_moved m (Opened s n) (Stopped why) = refl
@@ -59,20 +66,43 @@ module _ (code : List ℕ) (base size reads writes : ℕ) where
   same_moved m (Opened s n) Committed = ap (option_and_then (after_commit m)) (same_body s m (suc n))
   same_moved m (Opened s n) (Aborted status) = refl
   same_moved m (Opened s n) (AbortedBy by status) = refl
+  same_moved m (Opened s n) Drained = refl
 
-  same_step : (a : State) (c : ℕ) (o : Outcome) → step limited a c o ≡ step free a c o
+  same_step : (a : FlatState) (c : ℕ) (o : Outcome) → flat_step limited a c o ≡ flat_step free a c o
   same_step a c o =
-      ap (λ x. cond (ltb c a.count) (option_map (state_with a c) x) None) (same_moved a.memory (a.cores c) o)
+      ap (λ x. cond (ltb c a.count) (option_map (flat_with a c) x) None) (same_moved a.memory (a.cores c) o)
 
-  same_then : (ps : List (ℕ × Outcome)) → ((a : State) → run limited a ps ≡ run free a ps) → (x : Option State) →
-      option_and_then (λ b. run limited b ps) x ≡ option_and_then (λ b. run free b ps) x
+  same_then : (ps : List (ℕ × Outcome)) → ((a : FlatState) → flat_run limited a ps ≡ flat_run free a ps)
+      → (x : Option FlatState) →
+      option_and_then (λ b. flat_run limited b ps) x ≡ option_and_then (λ b. flat_run free b ps) x
   same_then ps f None = refl
   same_then ps f (Some b) = f b
 
-  pub same_run : (ps : List (ℕ × Outcome)) (a : State) → run limited a ps ≡ run free a ps
-  same_run [] a = refl
-  same_run (p ∷ ps) a = same_then ps (same_run ps) (step limited a p.0 p.1)
-      ∙ ap (option_and_then (λ b. run free b ps)) (same_step a p.0 p.1)
+  same_flat : (ps : List (ℕ × Outcome)) (a : FlatState) → flat_run limited a ps ≡ flat_run free a ps
+  same_flat [] a = refl
+  same_flat (p ∷ ps) a = same_then ps (same_flat ps) (flat_step limited a p.0 p.1)
+      ∙ ap (option_and_then (λ b. flat_run free b ps)) (same_step a p.0 p.1)
+
+  pub same_run : (ps : List (ℕ × Outcome)) (a : FlatState) → run limited (of_flat a) ps ≡ run free (of_flat a) ps
+  same_run ps a =
+      without.same_run limited a ps refl ∙ ap (option_map of_flat) (same_flat ps a)
+      ∙ sym (without.same_run free a ps refl)
+
+-- before the first step nothing is pending
+abbrev pub flat_opening : Program → FlatState
+flat_opening p =
+    record { memory = (opening_state p).memory; count = (opening_state p).count; cores = (opening_state p).cores }
+
+-- and so it is behind each run
+none_left : (a : Option FlatState) (end : State) → option_map of_flat a ≡ Some end → (j : ℕ) → [] ≡ end.pending j
+none_left None end e j = cc
+none_left (Some a) end e j = ap (λ (s : State). s.pending j) (same_Some (of_flat a) end e)
+
+pub none_pending : (k : Setting) (p : Program) (history : List (ℕ × Outcome)) (end : State) → k.store_buffer ≡ 0
+    → run k (opening_state p) history ≡ Some end → (j : ℕ) → [] ≡ end.pending j
+none_pending k p history end off is =
+    none_left (flat_run k (flat_opening p) history) end
+    (sym (without.same_run k (flat_opening p) history off) ∙ is)
 
 front_then : (k : Setting) (ps : List (ℕ × Outcome)) (i : ℕ)
     → ((a end : State) → run k a ps ≡ Some end → run k a (take i ps) ≡ None → ⊥) →

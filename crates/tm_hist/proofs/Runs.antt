@@ -14,8 +14,9 @@ use Rattle.std.specs.Prelude.{⊤}
 use Rattle.std.specs.Option.{option_and_then, option_map}
 use Rattle.tm_model.specs.declared.outcome.Outcome.{Outcome}
 use Rattle.tm_model.specs.Setting.{Setting, program_setting, setting_of}
-use Rattle.tm_model.specs.State.{Core, State, opening_state}
-use Rattle.tm_model.specs.Steps.{after_step_of, run, state_with, step}
+use Rattle.tm_model.specs.State.{Core, Pending, State, opening_state}
+use Rattle.tm_model.specs.Steps.{Next, after_step, after_step_of, run, state_with, step}
+use Rattle.tm_model.proofs.WithoutBuffer.{same_after_step}
 use Rattle.tm_hist.specs.Serial.{Agrees, EndsWith, IsStuck, ListStuck, core_at, core_of, first_core, list_run}
 use Rattle.tm_hist.specs.Serial.{list_step, steps_of, with_core}
 use Rattle.tm_hist.specs.History.{pair_of}
@@ -36,10 +37,18 @@ unfolding Same
 same_if true x y h = h refl
 same_if false x y h = tt
 
+-- with none pending
+abbrev with_none : List ℕ × Core → Next
+with_none change = (change.0, ([], change.1))
+
+abbrev no_stores : Pending
+no_stores = []
+
 -- the core that steps, and the others
 each_after : (a : State) (m : List ℕ) (cores : List Core) (c : ℕ) (p : List ℕ × Core) → Agrees a m cores
     → c < length cores →
-    (j : ℕ) → j < length (slice_set cores c p.1) → core_at (slice_set cores c p.1) j ≡ (state_with a c p).cores j
+    (j : ℕ) → j < length (slice_set cores c p.1)
+    → core_at (slice_set cores c p.1) j ≡ (state_with a c (with_none p)).cores j
 each_after a m cores c p h l j below =
     let size = length-set cores c p.1 in
     elim (nat_eq j c) as (λ b. nat_eq j c ≡ b → core_at (slice_set cores c p.1) j ≡ (if b then p.1 else a.cores j)) [
@@ -50,35 +59,34 @@ each_after a m cores c p h l j below =
 
 same_put : (a : State) (m : List ℕ) (cores : List Core) (c : ℕ) → Agrees a m cores → c < length cores
     → (o : Option (List ℕ × Core)) →
-    Same (option_map (state_with a c) o) (with_core cores c o)
+    Same (option_map (state_with a c) (option_map with_none o)) (with_core cores c o)
 unfolding Same
 same_put a m cores c h l None = tt
 same_put a m cores c h l (Some p) = record {
   memory = refl;
   count = length-set cores c p.1 ∙ h.count;
   each = each_after a m cores c p h l;
+  none = λ j below.
+      let size = length-set cores c p.1 in
+      let other : [] ≡ a.pending j = h.none j (omega arith) in
+      (elim (nat_eq j c) as (λ b. no_stores ≡ (if b then no_stores else a.pending j)) [ true ↦ refl | false ↦ other ]);
 }
 
-same_step : (k : Setting) (a : State) (m : List ℕ) (cores : List Core) (c : ℕ) (o : Outcome) → Agrees a m cores →
-    Same (step k a c o) (list_step k m cores c o)
-same_step k a m cores c o h =
-    let P : ℕ → Type 0 =
-    λ n. Same (if nat_lt n a.count then option_map (state_with a c) (after_step_of k a.memory (a.cores c) o) else None)
-    (list_step k m cores c o) in
-    let Q : ℕ → Type 0 =
-    λ n. Same (if nat_lt c n then option_map (state_with a c) (after_step_of k a.memory (a.cores c) o) else None)
-    (list_step k m cores c o) in
-    subst Q h.count
-    (same_if (nat_lt c (length cores)) (option_map (state_with a c) (after_step_of k a.memory (a.cores c) o))
-    (with_core cores c (after_step_of k m (core_at cores c) o)) λ e.
+same_step : (k : Setting) → k.store_buffer ≡ 0 → (a : State) (m : List ℕ) (cores : List Core) (c : ℕ) (o : Outcome)
+    → Agrees a m cores → Same (step k a c o) (list_step k m cores c o)
+same_step k off a m cores c o h =
+    let moved : List ℕ → Pending → Core → Option State =
+    λ n q x. option_map (state_with a c) (after_step k n q x o) in
+    let listed : Option (List ℕ × List Core) = with_core cores c (after_step_of k m (core_at cores c) o) in
+    subst (λ n. Same (if nat_lt c n then moved a.memory (a.pending c) (a.cores c) else None) (list_step k m cores c o))
+    h.count
+    (same_if (nat_lt c (length cores)) (moved a.memory (a.pending c) (a.cores c)) listed λ e.
     let l : c < length cores = ltb-true c (length cores) e in
-    let R : List ℕ → Type 0 =
-    λ x. Same (option_map (state_with a c) (after_step_of k x (a.cores c) o))
-    (with_core cores c (after_step_of k m (core_at cores c) o)) in
-    let S : Core → Type 0 =
-    λ x. Same (option_map (state_with a c) (after_step_of k m x o))
-    (with_core cores c (after_step_of k m (core_at cores c) o)) in
-    subst R h.memory (subst S (h.each c l) (same_put a m cores c h l (after_step_of k m (core_at cores c) o))))
+    subst (λ n. Same (moved n (a.pending c) (a.cores c)) listed) h.memory
+    (subst (λ q. Same (moved m q (a.cores c)) listed) (h.none c l)
+    (subst (λ x. Same (moved m [] x) listed) (h.each c l)
+    (subst (λ x. Same (option_map (state_with a c) x) listed) (sym (same_after_step k m (core_at cores c) o off))
+    (same_put a m cores c h l (after_step_of k m (core_at cores c) o))))))
 
 same_then : (k : Setting) (ps : List (ℕ × Outcome))
     → ((a : State) (m : List ℕ) (cores : List Core) → Agrees a m cores → Same (run k a ps) (list_run k m cores ps)) →
@@ -90,12 +98,13 @@ same_then k ps f None (Some q) h = absurd h
 same_then k ps f (Some a) None h = absurd h
 same_then k ps f (Some a) (Some q) h = f a q.0 q.1 h
 
-same_run : (k : Setting) (ps : List (ℕ × Outcome)) (a : State) (m : List ℕ) (cores : List Core) → Agrees a m cores
-    → Same (run k a ps) (list_run k m cores ps)
+same_run : (k : Setting) → k.store_buffer ≡ 0 → (ps : List (ℕ × Outcome)) (a : State) (m : List ℕ)
+    (cores : List Core) → Agrees a m cores → Same (run k a ps) (list_run k m cores ps)
 unfolding Same
-same_run k [] a m cores h = h
-same_run k (p ∷ ps) a m cores h =
-    same_then k ps (same_run k ps) (step k a p.0 p.1) (list_step k m cores p.0 p.1) (same_step k a m cores p.0 p.1 h)
+same_run k off [] a m cores h = h
+same_run k off (p ∷ ps) a m cores h =
+    same_then k ps (same_run k off ps) (step k a p.0 p.1) (list_step k m cores p.0 p.1)
+    (same_step k off a m cores p.0 p.1 h)
 
 read_some : (x : Option State) (q : List ℕ × List Core) → Same x (Some q)
     → (end : State) × (x ≡ Some end) × Agrees end q.0 q.1
@@ -108,19 +117,21 @@ unfolding Same
 read_none None h = refl
 read_none (Some a) h = absurd h
 
-pub ends : (k : Setting) (a : State) (m : List ℕ) (cores : List Core) (ps : List (ℕ × Outcome)) (now : List ℕ)
+pub ends : (k : Setting) → k.store_buffer ≡ 0
+    → (a : State) (m : List ℕ) (cores : List Core) (ps : List (ℕ × Outcome)) (now : List ℕ)
     (after : List Core) → Agrees a m cores →
     list_run k m cores ps ≡ Some (now, after) → EndsWith k a ps now after
-ends k a m cores ps now after h e =
+ends k off a m cores ps now after h e =
     let P : Option (List ℕ × List Core) → Type 0 = λ y. Same (run k a ps) y in
-    let got = read_some (run k a ps) (now, after) (subst P e (same_run k ps a m cores h)) in
+    let got = read_some (run k a ps) (now, after) (subst P e (same_run k off ps a m cores h)) in
     record { end = got.0; ran = got.1; agrees = got.2 }
 
-pub fails : (k : Setting) (a : State) (m : List ℕ) (cores : List Core) (ps : List (ℕ × Outcome)) → Agrees a m cores
+pub fails : (k : Setting) → k.store_buffer ≡ 0
+    → (a : State) (m : List ℕ) (cores : List Core) (ps : List (ℕ × Outcome)) → Agrees a m cores
     → list_run k m cores ps ≡ None → run k a ps ≡ None
-fails k a m cores ps h e =
+fails k off a m cores ps h e =
     let P : Option (List ℕ × List Core) → Type 0 = λ y. Same (run k a ps) y in
-    read_none (run k a ps) (subst P e (same_run k ps a m cores h))
+    read_none (run k a ps) (subst P e (same_run k off ps a m cores h))
 
 -- one more pair
 last : (k : Setting) (o : Option (List ℕ × List Core)) → option_and_then (λ q. list_run k q.0 q.1 []) o ≡ o
@@ -271,6 +282,7 @@ first_agrees p m xs em ex =
           ∙ ap core_of
           (ap (λ ys. get_or ys j no_core) ex
           ∙ get_or-map-range_with_len (first_core p) 0 n j j no_core (omega arith) (zero-add j));
+      none = λ j below. refl;
     }
 
 -- a lent vector comes back as it was left
@@ -281,37 +293,39 @@ written_back xs ys n e f = take_at ys (drop (length ys) xs) n (e ∙ sym f)
 -- the run by the rules of the program
 by_rules : (p : Program) (history : List (ℕ × Outcome)) (code : List ℕ) (base size : ℕ) (m : List ℕ) (cores : List Core)
     → code ≡ code_of p → base ≡ p.base → size ≡ p.mem_size →
-    list_run (program_setting p 0 0) m cores history ≡ list_run (setting_of code base size 0 0) m cores history
+    list_run (program_setting p 0 0 0) m cores history ≡ list_run (setting_of code base size 0 0 0) m cores history
 by_rules p history code base size m cores ec eb es =
-    ap (λ x. list_run (setting_of x p.base p.mem_size 0 0) m cores history) (sym ec)
-    ∙ ap (λ x. list_run (setting_of code x p.mem_size 0 0) m cores history) (sym eb)
-    ∙ ap (λ x. list_run (setting_of code base x 0 0) m cores history) (sym es)
+    ap (λ x. list_run (setting_of x p.base p.mem_size 0 0 0) m cores history) (sym ec)
+    ∙ ap (λ x. list_run (setting_of code x p.mem_size 0 0 0) m cores history) (sym eb)
+    ∙ ap (λ x. list_run (setting_of code base x 0 0 0) m cores history) (sym es)
 
 pub replayed : (p : Program) (history : List (ℕ × Outcome)) (code : List ℕ) (base size : ℕ) (m now : List ℕ)
     (xs : List SerialCore) (after : List Core) →
     code ≡ code_of p → base ≡ p.base → size ≡ p.mem_size → m ≡ opening_memory p
     → xs ≡ map (first_core p) (range_with_len 0 (length p.entries)) →
-    list_run (setting_of code base size 0 0) m (map core_of xs) history ≡ Some (now, after)
-    → EndsWith (program_setting p 0 0) (opening_state p) history now after
+    list_run (setting_of code base size 0 0 0) m (map core_of xs) history ≡ Some (now, after)
+    → EndsWith (program_setting p 0 0 0) (opening_state p) history now after
 replayed p history code base size m now xs after ec eb es em ex ran =
-    ends (program_setting p 0 0) (opening_state p) m (map core_of xs) history now after (first_agrees p m xs em ex)
+    ends (program_setting p 0 0 0) refl (opening_state p) m (map core_of xs) history now after
+    (first_agrees p m xs em ex)
     (by_rules p history code base size m (map core_of xs) ec eb es ∙ ran)
 
 pub refused : (p : Program) (history : List (ℕ × Outcome)) (code : List ℕ) (base size : ℕ) (m : List ℕ)
     (xs : List SerialCore) (i : ℕ) →
     code ≡ code_of p → base ≡ p.base → size ≡ p.mem_size → m ≡ opening_memory p
     → xs ≡ map (first_core p) (range_with_len 0 (length p.entries)) →
-    ListStuck (setting_of code base size 0 0) m (map core_of xs) history i
-    → IsStuck (program_setting p 0 0) (opening_state p) history i
+    ListStuck (setting_of code base size 0 0 0) m (map core_of xs) history i
+    → IsStuck (program_setting p 0 0 0) (opening_state p) history i
 refused p history code base size m xs i ec eb es em ex h =
     let start = first_agrees p m xs em ex in
-    let good = ends (program_setting p 0 0) (opening_state p) m (map core_of xs) (take i history) h.before.0 h.before.1
+    let good =
+    ends (program_setting p 0 0 0) refl (opening_state p) m (map core_of xs) (take i history) h.before.0 h.before.1
     start (by_rules p (take i history) code base size m (map core_of xs) ec eb es ∙ h.ran) in
     record {
       within = h.within;
       before = good.end;
       ran = good.ran;
-      stuck = fails (program_setting p 0 0) (opening_state p) m (map core_of xs) (take (i + 1) history) start
+      stuck = fails (program_setting p 0 0 0) refl (opening_state p) m (map core_of xs) (take (i + 1) history) start
           (by_rules p (take (i + 1) history) code base size m (map core_of xs) ec eb es ∙ h.stuck);
     }
 

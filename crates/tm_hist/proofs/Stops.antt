@@ -1,6 +1,6 @@
 -- A core that has stopped stays so, whichever core steps.
-use Rattle.std.proofs.Common.{◌≡◌, ℕ, ◌<◌, Bool, true, false, cond, eqb, ltb, List, length, Option, Some, None, refl}
-use Rattle.std.proofs.Common.{sym, ap, ◌∙◌, subst, arith}
+use Rattle.std.proofs.Common.{◌≡◌, ℕ, ◌<◌, Bool, true, false, cond, eqb, ltb, List, [], ◌∷◌, length, Option, Some, None}
+use Rattle.std.proofs.Common.{refl, sym, ap, ◌∙◌, subst, arith}
 use Rattle.std.specs.Option.{option_map}
 use Rattle.std.proofs.lemmas.Bool.{eqb-true, ltb-true, ltb-false}
 use Rattle.std.proofs.lemmas.List.{get_or_past}
@@ -9,19 +9,21 @@ use Rattle.ia_regs.specs.declared.Regs.{Regs}
 use Rattle.tm_rule.specs.declared.kinds.Stop.{Stop}
 use Rattle.tm_rule.specs.declared.kinds.OutsideResult.{OutsideResult}
 use Rattle.tm_rule.specs.declared.kinds.OutsideResult.TheVariants.{Goes, Begins, Stops}
-use Rattle.tm_model.specs.Conflicts.{addresses_loaded_by, addresses_stored_by, doom_after_other, doom_after_own}
+use Rattle.tm_model.specs.Conflicts.{addresses_loaded_by, addresses_written_by, doom_after_other, doom_after_own}
 use Rattle.tm_model.specs.Conflicts.{doomed_after}
 use Rattle.tm_model.specs.Isolated.{Body, isolated_body}
 use Rattle.tm_model.specs.Setting.{Setting}
+use Rattle.tm_model.specs.Types.{Store}
 use Rattle.tm_model.specs.Shown.{View, view_between, view_inside, view_midway, view_of, view_of_body, view_outside}
-use Rattle.tm_model.specs.State.{Closed, Core, Halted, Midway, Opened, State}
-use Rattle.tm_model.specs.Steps.{after_step_of, state_with, step}
+use Rattle.tm_model.specs.State.{Closed, Core, Halted, Midway, Opened, Pending, State, seen_by, seen_memory, with_store}
+use Rattle.tm_model.specs.Steps.{Next, after_step, must_wait, settled, state_with, step, store_buffered}
+use Rattle.tm_core.proofs.StoreBufferStep.{core_settled}
 use Rattle.tm_core.specs.Theorem.{SameMachine, ShownMachine as Machine, StandsFor, TakesStepUnder, machine_setting}
 use Rattle.tm_core.specs.Theorem.{no_regs, view_at}
 use Rattle.tm_hist.specs.Board.{stop_shown}
 use Rattle.tm_model.specs.declared.outcome.Outcome.{Outcome}
 use Rattle.tm_model.specs.declared.outcome.Outcome.TheVariants.{Plain, Loaded, Stopped, Idle, Begun, Inside, Committed}
-use Rattle.tm_model.specs.declared.outcome.Outcome.TheVariants.{Aborted, AbortedBy}
+use Rattle.tm_model.specs.declared.outcome.Outcome.TheVariants.{Aborted, AbortedBy, Drained}
 use Rattle.tm_model.specs.declared.outcome.Event.{Event}
 use Rattle.tm_model.specs.declared.outcome.CoreState.{CoreState}
 use Rattle.tm_model.specs.declared.outcome.CoreState.TheVariants.{Running, Mid, Open, Condemned, Stopped as AtStop}
@@ -69,17 +71,42 @@ module _ (k : Setting) (m : List ℕ) (why : Stop) where
   is_halted (Opened s n) None v e stop =
       absurd (option_and_then_some (view_inside s) (isolated_body k s m n) v e (λ b is e2. no_open s b v e2 stop))
 
-halted_moved : (k : Setting) (m : List ℕ) (s : Regs) (why : Stop) (o : Outcome) (p : List ℕ × Core)
-    → after_step_of k m (Halted s why) o ≡ Some p → p.1 ≡ Halted s why
-halted_moved k m s why Plain p e = cc
-halted_moved k m s why Loaded p e = cc
-halted_moved k m s why (Stopped x) p e = cc
-halted_moved k m s why Idle p e = ap (λ (q : List ℕ × Core). q.1) (sym (same_Some (m, Halted s why) p e))
-halted_moved k m s why Begun p e = cc
-halted_moved k m s why Inside p e = cc
-halted_moved k m s why Committed p e = cc
-halted_moved k m s why (Aborted status) p e = cc
-halted_moved k m s why (AbortedBy by status) p e = cc
+-- no rule moves it
+not_moved : (t : Bool) (change : Option Next) (q : Next) → change ≡ None → cond t None change ≡ Some q → ⊥
+not_moved true change q none e = cc
+not_moved false change q none e = cc
+
+idles : (t : Bool) (m : List ℕ) (p : Pending) (s : Regs) (why : Stop) (store : Option Store) (q : Next)
+    → cond t None (Some (settled m p store (seen_memory m p, Halted s why))) ≡ Some q → q.1.1 ≡ Halted s why
+idles true m p s why store q e = cc
+idles false m p s why store q e =
+    ap (λ (n : Next). n.1.1) (sym (same_Some (settled m p store (seen_memory m p, Halted s why)) q e))
+    ∙ core_settled m p store (seen_memory m p) (Halted s why)
+
+halted_moved : (k : Setting) (m : List ℕ) (p : Pending) (s : Regs) (why : Stop) (o : Outcome) (q : Next)
+    → after_step k m p (Halted s why) o ≡ Some q → q.1.1 ≡ Halted s why
+halted_moved k m [] s why Drained q e = cc
+halted_moved k m (oldest ∷ younger) s why Drained q e =
+    ap (λ (n : Next). n.1.1) (sym (same_Some (with_store m oldest, (younger, Halted s why)) q e))
+halted_moved k m p s why Idle q e =
+    idles (must_wait k (seen_memory m p) p (Halted s why) Idle) m p s why
+    (store_buffered k (seen_memory m p) (Halted s why) Idle) q e
+halted_moved k m p s why Plain q e =
+    absurd (not_moved (must_wait k (seen_memory m p) p (Halted s why) Plain) None q refl e)
+halted_moved k m p s why Loaded q e =
+    absurd (not_moved (must_wait k (seen_memory m p) p (Halted s why) Loaded) None q refl e)
+halted_moved k m p s why (Stopped x) q e =
+    absurd (not_moved (must_wait k (seen_memory m p) p (Halted s why) (Stopped x)) None q refl e)
+halted_moved k m p s why Begun q e =
+    absurd (not_moved (must_wait k (seen_memory m p) p (Halted s why) Begun) None q refl e)
+halted_moved k m p s why Inside q e =
+    absurd (not_moved (must_wait k (seen_memory m p) p (Halted s why) Inside) None q refl e)
+halted_moved k m p s why Committed q e =
+    absurd (not_moved (must_wait k (seen_memory m p) p (Halted s why) Committed) None q refl e)
+halted_moved k m p s why (Aborted status) q e =
+    absurd (not_moved (must_wait k (seen_memory m p) p (Halted s why) (Aborted status)) None q refl e)
+halted_moved k m p s why (AbortedBy by status) q e =
+    absurd (not_moved (must_wait k (seen_memory m p) p (Halted s why) (AbortedBy by status)) None q refl e)
 
 not_doomed : (o : Outcome) → doom_after_own o None ≡ None
 not_doomed Plain = refl
@@ -91,15 +118,16 @@ not_doomed Inside = refl
 not_doomed Committed = refl
 not_doomed (Aborted status) = refl
 not_doomed (AbortedBy by status) = refl
+not_doomed Drained = refl
 
 -- the step of a core, by its move
 record Moved (k : Setting) (a : State) (c : ℕ) (o : Outcome) (next : State) : Type 0 where
-  pub to : List ℕ × Core
-  pub moves : after_step_of k a.memory (a.cores c) o ≡ Some to
+  pub to : Next
+  pub moves : after_step k a.memory (a.pending c) (a.cores c) o ≡ Some to
   pub is : state_with a c to ≡ next
 
-by_move : (k : Setting) (a : State) (c : ℕ) (o : Outcome) (next : State) (b : Bool) (x : Option (List ℕ × Core))
-    → after_step_of k a.memory (a.cores c) o ≡ x →
+by_move : (k : Setting) (a : State) (c : ℕ) (o : Outcome) (next : State) (b : Bool) (x : Option Next)
+    → after_step k a.memory (a.pending c) (a.cores c) o ≡ x →
     cond b (option_map (state_with a c) x) None ≡ Some next → Moved k a c o next
 by_move k a c o next false x moves e = cc
 by_move k a c o next true None moves e = cc
@@ -111,26 +139,26 @@ still_halted : (k : Setting) (a : State) (d : ℕ → Option ℕ) (c j : ℕ) (o
     (h : IsHalted (a.cores j) (d j) why) → IsHalted (next.cores j) (doomed_after k a d c o j) why
 still_halted k a d c j o why next e h =
     let move : Moved k a c o next =
-    by_move k a c o next (ltb c a.count) (after_step_of k a.memory (a.cores c) o) refl e in
+    by_move k a c o next (ltb c a.count) (after_step k a.memory (a.pending c) (a.cores c) o) refl e in
+    let loads : List ℕ = addresses_loaded_by k (seen_by a c) (a.cores c) o in
+    let stores : List ℕ = addresses_written_by k a.memory (a.pending c) (a.cores c) o in
     subst (λ (x : State). IsHalted (x.cores j) (doomed_after k a d c o j) why) move.is
-    (elim (eqb j c) as (λ t. eqb j c ≡ t → IsHalted (cond t move.to.1 (a.cores j)) (cond t (doom_after_own o (d c))
-    (doom_after_other k a.memory (addresses_loaded_by k a.memory (a.cores c) o)
-    (addresses_stored_by k a.memory (a.cores c) o) (a.cores j) (d j))) why) [
+    (elim (eqb j c) as (λ t. eqb j c ≡ t → IsHalted (cond t move.to.1.1 (a.cores j)) (cond t (doom_after_own o (d c))
+    (doom_after_other k (seen_by a j) loads stores (a.cores j) (d j))) why) [
       | true ↦ λ same.
           let at : j ≡ c = eqb-true j c same in
           let core : a.cores c ≡ Halted h.regs why = ap a.cores (sym at) ∙ h.core in
           let doom : d c ≡ None = ap d (sym at) ∙ h.doom in
           record {
             regs = h.regs;
-            core = halted_moved k a.memory h.regs why o move.to
-                (ap (λ x. after_step_of k a.memory x o) (sym core) ∙ move.moves);
+            core = halted_moved k a.memory (a.pending c) h.regs why o move.to
+                (ap (λ x. after_step k a.memory (a.pending c) x o) (sym core) ∙ move.moves);
             doom = ap (doom_after_own o) doom ∙ not_doomed o;
           }
       | false ↦ λ other. record {
         regs = h.regs;
         core = h.core;
-        doom = ap (λ x. doom_after_other k a.memory (addresses_loaded_by k a.memory (a.cores c) o)
-            (addresses_stored_by k a.memory (a.cores c) o) x (d j)) h.core ∙ h.doom;
+        doom = ap (λ x. doom_after_other k (seen_by a j) loads stores x (d j)) h.core ∙ h.doom;
       }
     ] refl)
 
@@ -163,10 +191,10 @@ stays_stopped event old new a d c o stands same takes j why stop =
     let cores : length new.views ≡ length old.views = same.cores in
     let within : j < length new.views = omega arith in
     let before : IsHalted (a.cores j) (d j) why =
-    is_halted (machine_setting old) a.memory why (a.cores j) (d j) (view_at old j) (stands.each j below) stop in
+    is_halted (machine_setting old) (seen_by a j) why (a.cores j) (d j) (view_at old j) (stands.each j below) stop in
     let after : IsHalted (takes.next.cores j) (doomed_after (machine_setting old) a d c o j) why =
     still_halted (machine_setting old) a d c j o why takes.next takes.is_step before in
-    shows_stop (machine_setting new) takes.next.memory (takes.next.cores j)
+    shows_stop (machine_setting new) (seen_by takes.next j) (takes.next.cores j)
     (doomed_after (machine_setting old) a d c o j) (view_at new j) why after (takes.stands.each j within)
 
 is_stop : (mode : CoreState) (why : Stop) → stop_shown mode ≡ Some why → mode ≡ AtStop why

@@ -56,9 +56,9 @@ board_code limits outcome machine =
     })
     (λ _. refl)
 
--- the rules of its program's machine
+-- the rules of its program's machine, which has no store buffers
 abbrev pub board_setting : ShownBoard → Setting
-board_setting board = program_setting board.program board.limits.read_lines board.limits.write_lines
+board_setting board = program_setting board.program board.limits.read_lines board.limits.write_lines 0
 
 -- the machine is the run of the history from the program's opening state, and each outcome of the history is the owed
 -- one
@@ -123,7 +123,7 @@ IsOwedNext event board core outcome =
     (doomed_at_end (board_setting board) (opening_state board.program) (λ _. None) board.history) core outcome
 
 -- The same by what the core showed: its transaction is aborted at the depth that it had, and anywhere else nothing is
--- told of the event (SDM volume 1, 16.3.8).
+-- told of the event (SDM volume 1, 16.3.8), nor of a drain, since no store is pending.
 abbrev pub TellsAsShown : Event → CoreState → Outcome → Type 0
 TellsAsShown (event.Abort by) (state.Open depth) outcome = outcome ≡ abort_by by depth
 TellsAsShown event state outcome = event_told outcome ≡ None

@@ -3,7 +3,7 @@ use Rattle.std.specs.Prelude.{ℕ, List, map}
 use Rattle.ia_word.specs.Bytes.{long_of}
 use Rattle.tm_model.specs.declared.outcome.Outcome.{Outcome}
 use Rattle.tm_model.specs.declared.outcome.Outcome.TheVariants.{Plain, Loaded, Stopped, Idle, Begun, Inside}
-use Rattle.tm_model.specs.declared.outcome.Outcome.TheVariants.{Committed, Aborted, AbortedBy}
+use Rattle.tm_model.specs.declared.outcome.Outcome.TheVariants.{Committed, Aborted, AbortedBy, Drained}
 use Rattle.tm_model.specs.declared.outcome.Interference.TheVariants.{Interrupt, Eviction, Snoop}
 use Rattle.tm_hist.specs.declared.pair.PackedOutcome.{PackedOutcome}
 use Rattle.tm_hist.specs.declared.pair.PackedOutcome.TheVariants as kept
@@ -25,6 +25,7 @@ outcome_of (kept.Aborted status) = Aborted (long_of status)
 outcome_of (kept.Interrupted status) = AbortedBy Interrupt (long_of status)
 outcome_of (kept.Evicted status) = AbortedBy Eviction (long_of status)
 outcome_of (kept.Snooped status) = AbortedBy Snoop (long_of status)
+outcome_of kept.Drained = Drained
 
 abbrev pub pair_of : Pair → ℕ × Outcome
 pair_of p = (p.core, outcome_of p.outcome)

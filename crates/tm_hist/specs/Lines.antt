@@ -1,6 +1,7 @@
 -- The lines that are printed of a run: state lines, outcome lines and dumps of memory (docs/FORMATS.md, "Printed
 -- lines").
-use Rattle.std.specs.Prelude.{ℕ, ◌+◌, ◌*◌, ◌/◌, ◌%◌, ◌^◌, List, ◌++◌, codes, drop, take, length, slice_index}
+use Rattle.std.specs.Prelude.{ℕ, ◌+◌, ◌*◌, ◌/◌, ◌%◌, ◌^◌, List, ◌++◌, codes, drop, take, length, slice_index, Option}
+use Rattle.std.specs.Prelude.{Some, None}
 use Rattle.std.specs.List.{flat_map, range_with_len}
 use Rattle.std.specs.Int.{w16, to_be_bytes}
 use Rattle.hex.specs.Hex.{encode_lower}
@@ -77,6 +78,19 @@ interference_word interference.Interrupt = codes "interrupt"
 interference_word interference.Eviction = codes "eviction"
 interference_word interference.Snoop = codes "snoop"
 
+-- the status of an abort, as EAX holds it
+abbrev pub status_of : Outcome → Option ℕ
+status_of (outcome.Aborted status) = Some status
+status_of (outcome.AbortedBy by status) = Some status
+status_of outcome.Plain = None
+status_of outcome.Loaded = None
+status_of (outcome.Stopped why) = None
+status_of outcome.Idle = None
+status_of outcome.Begun = None
+status_of outcome.Inside = None
+status_of outcome.Committed = None
+status_of outcome.Drained = None
+
 abbrev pub outcome_words : Outcome → List ℕ
 outcome_words outcome.Plain = codes "plain"
 outcome_words outcome.Loaded = codes "loaded"
@@ -88,6 +102,7 @@ outcome_words outcome.Committed = codes "committed"
 outcome_words (outcome.Aborted status) = codes "aborted " ++ eight_digits status
 outcome_words (outcome.AbortedBy by status) =
     codes "aborted " ++ eight_digits status ++ codes " " ++ interference_word by
+outcome_words outcome.Drained = codes "drained"
 
 -- the core, and what its step was
 unfoldable pub step_text : ℕ → Outcome → List ℕ

@@ -20,11 +20,12 @@ cores_of serial = map core_of serial.cores.items
 -- it holds what the run of the history ends with
 abbrev pub IsReplay : Program → List (ℕ × Outcome) → Serial → Type 0
 IsReplay program history serial =
-    EndsWith (program_setting program 0 0) (opening_state program) history (memory_of serial) (cores_of serial)
+    EndsWith (program_setting program 0 0 0) (opening_state program) history (memory_of serial) (cores_of serial)
 
 -- the history is no run, from this pair on
 abbrev pub IsRefused : Program → List (ℕ × Outcome) → SerialFault → Type 0
-IsRefused program history (NotARun index) = IsStuck (program_setting program 0 0) (opening_state program) history index
+IsRefused program history (NotARun index) =
+    IsStuck (program_setting program 0 0 0) (opening_state program) history index
 IsRefused program history NoMemory = ⊥
 
 -- it holds what the machine of a board shows: memory, and of each core the registers before its open transaction, and

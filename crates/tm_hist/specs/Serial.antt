@@ -1,8 +1,10 @@
--- A run on one flat memory, as it is replayed. No limit on lines is asked in a run: the settings here have 0.
+-- A run on one flat memory, without store buffers, as it is replayed. No limit on lines is asked in a run: the settings
+-- here have 0.
 use Rattle.std.specs.Prelude.{◌≡◌, ℕ, ◌+◌, ◌-◌, ◌<◌, List, [], ◌∷◌, length, take, slice_index_or, slice_set, nat_lt}
-use Rattle.std.specs.Prelude.{if◌then◌else◌, option_and_then, Option, Some, None}
+use Rattle.std.specs.Prelude.{if◌then◌else◌, option_and_then, option_map, Option, Some, None}
 use Rattle.ia_image.specs.Program.{ProgramValue as Program, start_regs}
 use Rattle.ia_regs.specs.declared.Regs.{Regs}
+use Rattle.tm_rule.specs.declared.kinds.Code.{Code}
 use Rattle.tm_rule.specs.declared.kinds.Stop.{Stop}
 use Rattle.tm_rule.specs.declared.kinds.OutsideResult.{OutsideResult}
 use Rattle.tm_rule.specs.declared.kinds.OutsideResult.TheVariants.{Goes, Begins, Stops}
@@ -10,7 +12,7 @@ use Rattle.tm_rule.specs.declared.kinds.InsideResult.{InsideResult}
 use Rattle.tm_rule.specs.declared.kinds.InsideResult.TheVariants.{GoesOn, Nests, Ends, Fails}
 use Rattle.tm_model.specs.declared.outcome.Outcome.{Outcome}
 use Rattle.tm_model.specs.Access.{memory_after, stores_of}
-use Rattle.tm_model.specs.Setting.{Setting}
+use Rattle.tm_model.specs.Setting.{Setting, setting_of}
 use Rattle.tm_model.specs.State.{Closed, Core, Halted, Midway, Opened, State}
 use Rattle.tm_model.specs.Steps.{after_step_of, run}
 use Rattle.tm_hist.specs.declared.flat.FlatBody.{FlatBody}
@@ -18,6 +20,10 @@ use Rattle.tm_hist.specs.declared.replay.SerialFault.{SerialFault}
 use Rattle.tm_hist.specs.declared.replay.SerialFault.TheVariants.{NotARun, NoMemory}
 use Rattle.tm_hist.specs.declared.serial_core.SerialCore.{SerialCore}
 use Rattle.tm_hist.specs.declared.serial_core.SerialCore.TheVariants as serial_core
+
+-- the rules of this code on so many bytes of memory
+abbrev pub flat_setting : Code → ℕ → Setting
+flat_setting code size = setting_of code.bytes.now code.base size 0 0 0
 
 -- a body after its XBEGIN
 abbrev pub flat_body_begun : OutsideResult → Option FlatBody
@@ -44,6 +50,10 @@ core_of (serial_core.Closed regs) = Closed regs
 core_of (serial_core.Midway regs value) = Midway regs value
 core_of (serial_core.Halted regs stop) = Halted regs stop
 core_of (serial_core.Opened regs steps) = Opened regs steps
+
+-- memory and the core behind its step, where the rules allow the step
+abbrev pub behind_step : List ℕ → Option SerialCore → Option (List ℕ × Core)
+behind_step memory core = option_map (λ c. (memory, core_of c)) core
 
 -- how many steps a core has made since its XBEGIN
 abbrev pub steps_of : SerialCore → ℕ
@@ -110,11 +120,12 @@ abbrev pub serial_code : SerialFault → ℕ
 serial_code (NotARun index) = 53
 serial_code NoMemory = 54
 
--- lists that hold the memory and the cores of a state
+-- lists that hold the memory and the cores of a state, in which no store is pending
 pub record Agrees (state : State) (bytes : List ℕ) (cores : List Core) : Type 0 where
   pub memory : bytes ≡ state.memory
   pub count : length cores ≡ state.count
   pub each : (number : ℕ) → number < length cores → core_at cores number ≡ state.cores number
+  pub none : (number : ℕ) → number < length cores → [] ≡ state.pending number
 
 -- the run of these steps ends with this memory and these cores
 pub record EndsWith (setting : Setting) (state : State) (history : List (ℕ × Outcome)) (memory : List ℕ)

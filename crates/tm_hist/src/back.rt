@@ -22,20 +22,9 @@ pub fn first_steps(alloc: Global, board: &Board, count: u64) -> Result<Board, Bo
         ((bad_limit board.now.limit ≡ false) × (bad_limits board.now.limits ≡ true)) }
     ensures ok { IfOk result (λ first. IsFirst board.now count first) }
 {
-    match Board::new(alloc, board.program(), board.limits(), board.limit()) {
-        Ok(opened) => Ok(followed(board, count, opened)),
-        Err(fault) => Err(fault),
-    }
-}
-
-// A new board after the first so many steps of a board's history.
-fn followed(board: &Board, count: u64, opened: Board) -> Board
-    requires { IsNew board.now.program board.now.limits board.now.limit opened }
-    ensures { IsFirst board.now count result }
-{
-    let mut first = opened;
+    let mut first = Board::new(alloc, board.program(), board.limits(), board.limit())?;
     follow(board, count.min(board.made()), &mut first);
-    first
+    Ok(first)
 }
 
 // Makes the first so many steps of a board's history.

@@ -5,7 +5,7 @@
 //! is such a core before it asks whether the history is full. How its pairs are kept stands in `pair`, and the run
 //! of a history on one memory in `one_memory`.
 
-ghost use Rattle.std.specs.Prelude.{◌≡◌, ◌↔◌, ◌⊎◌, ◌<◌, ◌≤◌, ℕ, List, [], ◌∷◌, ◌++◌, Err, IfErr, IfOk, IsTrue, OnErr};
+ghost use Rattle.std.specs.Prelude.{◌≡◌, ◌↔◌, ◌⊎◌, ◌<◌, ◌≤◌, ℕ, [], ◌∷◌, ◌++◌, Err, IfErr, IfOk, IsTrue, OnErr};
 ghost use Rattle.std.specs.Prelude.{◌-◌, IfSome, None, Some, false, length, min, true};
 ghost use Rattle.std.specs.List.{slice_get};
 ghost use Rattle.tm_core.specs.AtOnce.{IsDoneOnRegisters};
@@ -103,6 +103,7 @@ pub struct Board {
 
 impl Model for Board {
     ghost use Rattle.std.specs.Prelude.{map, vec_capacity};
+    ghost use Rattle.ia_exec.specs.contracts.done.Store.{the_row as store_row};
     ghost use Rattle.ia_regs.specs.contracts.Regs.{the_row as regs_row};
     ghost use Rattle.tm_core.specs.contracts.limits.Limits.{the_row as limits_row};
     ghost use Rattle.tm_model.specs.contracts.outcome.CoreState.{the_row as state_row};
@@ -113,7 +114,8 @@ impl Model for Board {
 
     ghost Value = { ShownBoard };
 
-    ghost coded = { board_code limits_row.coded outcome_row.coded (shown_code state_row.coded regs_row.coded) };
+    ghost coded = { board_code limits_row.coded outcome_row.coded
+        (shown_code state_row.coded regs_row.coded store_row.coded) };
 
     ghost view = { λ b. record {
       program = b.program;

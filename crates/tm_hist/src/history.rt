@@ -6,7 +6,7 @@
 
 ghost use Rattle.std.specs.Prelude.{◌≡◌, ◌==◌, [], IfOk, OnOk, length, map};
 ghost use Rattle.std.specs.List.{slice_get};
-ghost use Rattle.tm_model.specs.Runs.{event_told, pick_of, picks_of};
+ghost use Rattle.tm_model.specs.Runs.{event_told, picks_of};
 ghost use Rattle.tm_hist.specs.History.{pair_of, pairs_in, pairs_of};
 
 use crate::pair::Pair;
@@ -120,6 +120,7 @@ pub fn event_of(outcome: Outcome) -> Option<Event>
 {
     match outcome {
         Outcome::AbortedBy(interference, _status) => Some(Event::Abort(interference)),
+        Outcome::Drained => Some(Event::Drain),
         _ => None,
     }
 }

@@ -32,8 +32,8 @@ pub use board::{Board, BoardFault, MOST_STEPS, StepFault};
 pub use history::{History, event_of};
 pub use history_memory::HistoryMemory;
 pub use lines::{
-    depth_of, interference_text, push_state, push_step, stop_text, write_core, write_dump,
-    write_outcome, write_state,
+    depth_of, flag_bits, interference_name, interference_text, push_state, push_step, status_of,
+    stop_name, stop_text, write_core, write_dump, write_outcome, write_state,
 };
 pub use one_memory::serial;
 pub use replay::{Serial, SerialFault};

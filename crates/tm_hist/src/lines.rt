@@ -9,7 +9,7 @@ ghost use Rattle.arrayvec.specs.ArrayVec.{array_vec_len};
 ghost use Rattle.text_out.specs.Writing.{Writes};
 ghost use Rattle.tm_hist.specs.Lines.{core_line, core_text, dump_line, dump_lines, flag_sum, flags_text};
 ghost use Rattle.tm_hist.specs.Lines.{interference_word, outcome_line, register_text, regs_text, state_text};
-ghost use Rattle.tm_hist.specs.Lines.{state_word, step_text, stop_word};
+ghost use Rattle.tm_hist.specs.Lines.{state_word, status_of, step_text, stop_word};
 ghost use Rattle.tm_hist.specs.Machine.{core_count, depth_of};
 
 use ia_regs::{Flags, Regs};
@@ -21,33 +21,49 @@ use tm_model::{CoreState, Interference, Outcome};
 use tm_rule::Stop;
 
 /// The word of a stop.
-pub fn stop_text(stop: Stop) -> &'static [u8]
+pub fn stop_name(stop: Stop) -> &'static str
     ensures text { result.now ≡ stop_word stop }
     ensures short { length result.now ≤ 13 }
 {
     match stop {
-        Stop::Divide => b"#DE",
-        Stop::Breakpoint => b"#BP",
-        Stop::Undefined => b"#UD",
-        Stop::Protection => b"#GP",
-        Stop::Halt => b"HLT",
-        Stop::Range => b"range",
-        Stop::CodeStore => b"code-store",
-        Stop::Fetch => b"fetch",
-        Stop::NotInSubset => b"not-in-subset",
+        Stop::Divide => "#DE",
+        Stop::Breakpoint => "#BP",
+        Stop::Undefined => "#UD",
+        Stop::Protection => "#GP",
+        Stop::Halt => "HLT",
+        Stop::Range => "range",
+        Stop::CodeStore => "code-store",
+        Stop::Fetch => "fetch",
+        Stop::NotInSubset => "not-in-subset",
     }
 }
 
+/// The bytes of [`stop_name`].
+pub fn stop_text(stop: Stop) -> &'static [u8]
+    ensures text { result.now ≡ stop_word stop }
+    ensures short { length result.now ≤ 13 }
+{
+    stop_name(stop).as_bytes()
+}
+
 /// The word of what aborted a transaction from outside of the program: `interrupt`, `eviction` or `snoop`.
-pub fn interference_text(interference: Interference) -> &'static [u8]
+pub fn interference_name(interference: Interference) -> &'static str
     ensures text { result.now ≡ interference_word interference }
     ensures short { length result.now ≤ 9 }
 {
     match interference {
-        Interference::Interrupt => b"interrupt",
-        Interference::Eviction => b"eviction",
-        Interference::Snoop => b"snoop",
+        Interference::Interrupt => "interrupt",
+        Interference::Eviction => "eviction",
+        Interference::Snoop => "snoop",
     }
+}
+
+/// The bytes of [`interference_name`].
+pub fn interference_text(interference: Interference) -> &'static [u8]
+    ensures text { result.now ≡ interference_word interference }
+    ensures short { length result.now ≤ 9 }
+{
+    interference_name(interference).as_bytes()
 }
 
 /// How deep the transaction is that is open, or that a conflict hit; 0 outside of transactions.
@@ -57,6 +73,23 @@ pub fn depth_of(state: CoreState) -> u8
     match state {
         CoreState::Running | CoreState::Mid | CoreState::Stopped(_) => 0,
         CoreState::Open(depth) | CoreState::Condemned(depth) => depth,
+    }
+}
+
+/// The status of an abort, where a step was one.
+pub fn status_of(outcome: Outcome) -> Option<u32>
+    ensures { result ≡ status_of outcome }
+{
+    match outcome {
+        Outcome::Aborted(status) | Outcome::AbortedBy(_, status) => Some(status),
+        Outcome::Plain
+        | Outcome::Loaded
+        | Outcome::Stopped(_)
+        | Outcome::Idle
+        | Outcome::Begun
+        | Outcome::Inside
+        | Outcome::Committed
+        | Outcome::Drained => None,
     }
 }
 
@@ -81,8 +114,8 @@ pub fn push_state(row: &mut TextLine, state: CoreState)
     }
 }
 
-// The flags' bits, and no other.
-fn flag_bits(flags: Flags) -> u16
+/// The flags' bits, each at its place in EFLAGS, and no other.
+pub fn flag_bits(flags: Flags) -> u16
     ensures { result ≡ flag_sum flags }
 {
     use bitflags::Flags as _;
@@ -208,6 +241,7 @@ pub fn push_step(row: &mut TextLine, core: u8, outcome: &Outcome)
             push(row, b" ");
             push(row, interference_text(*interference));
         }
+        Outcome::Drained => push(row, b"drained"),
     }
 }
 

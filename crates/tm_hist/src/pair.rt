@@ -24,6 +24,7 @@ pub enum PackedOutcome {
     Interrupted([u8; 4]),
     Evicted([u8; 4]),
     Snooped([u8; 4]),
+    Drained,
 }
 
 /// The core that stepped, and its outcome.
@@ -49,6 +50,7 @@ fn pack(outcome: Outcome) -> PackedOutcome
         Outcome::Committed => PackedOutcome::Committed,
         Outcome::Aborted(status) => PackedOutcome::Aborted(le_bytes(status)),
         Outcome::AbortedBy(interference, status) => pack_abort(interference, status),
+        Outcome::Drained => PackedOutcome::Drained,
     }
 }
 
@@ -86,6 +88,7 @@ impl PackedOutcome {
             PackedOutcome::Snooped(status) => {
                 Outcome::AbortedBy(Interference::Snoop, from_le(*status))
             }
+            PackedOutcome::Drained => Outcome::Drained,
         }
     }
 }

@@ -5,9 +5,11 @@
 
 ghost use Rattle.std.specs.Prelude.{◌≡◌, ◌↔◌, ◌<◌, length, IfOk, IsOk};
 ghost use Rattle.tm_hist.specs.Serial.{serial_code};
+ghost use Rattle.tm_hist.specs.declared.replay.SerialFault.TheVariants.{NoMemory};
 
 use crate::serial_core::SerialCore;
 use ia_regs::Regs;
+use std::alloc::{AllocError, AllocFailed};
 use thiserror::Error;
 use tm_core::NoSuchCore;
 use tm_rule::Stop;
@@ -32,6 +34,22 @@ impl SerialFault {
             SerialFault::NotARun(_index) => 53,
             SerialFault::NoMemory => 54,
         }
+    }
+}
+
+impl From<AllocError> for SerialFault {
+    ghost from_gives = { λ _ fault. fault ≡ NoMemory };
+
+    fn from(_refused: AllocError) -> SerialFault {
+        SerialFault::NoMemory
+    }
+}
+
+impl<T: Drop> From<AllocFailed<T>> for SerialFault {
+    ghost from_gives = { λ _ fault. fault ≡ NoMemory };
+
+    fn from(_refused: AllocFailed<T>) -> SerialFault {
+        SerialFault::NoMemory
     }
 }
 

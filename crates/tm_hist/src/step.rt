@@ -5,28 +5,27 @@
 //! an abort the registers are restored, with the status that the outcome says. Whether a transaction would have
 //! been hit or had room is not asked.
 
-ghost use Rattle.std.specs.Prelude.{◌≡◌, ℕ, ◌+◌, ◌<◌, ◌^◌, ◌≤◌, length, map, Some, None, IfSome, option_map};
+ghost use Rattle.std.specs.Prelude.{◌≡◌, ℕ, ◌+◌, ◌<◌, ◌^◌, ◌≤◌, length, map, Some, None, IfSome};
 ghost use Rattle.std.specs.Prelude.{if◌then◌else◌};
 ghost use Rattle.std.specs.List.{AllByRecursion};
-ghost use Rattle.ia_flat.specs.FlatCode.{AreFlats};
-ghost use Rattle.tm_model.specs.Setting.{outside_at, setting_of, value_at};
+ghost use Rattle.tm_model.specs.Setting.{outside_at, value_at};
 ghost use Rattle.tm_model.specs.State.{Closed, Halted, Midway, Opened};
 ghost use Rattle.tm_rule.specs.Rule.{StandsAt, outside_of};
 ghost use Rattle.tm_model.specs.Steps.{after_load, after_begin, after_plain, after_step_of, after_stop};
 ghost use Rattle.tm_model.specs.Steps.{registers_after_abort};
 ghost use Rattle.tm_model.specs.Steps.{stop_number};
 ghost use Rattle.tm_hist.specs.History.{outcome_of, pair_of};
-ghost use Rattle.tm_hist.specs.Serial.{core_of, list_step, steps_of};
+ghost use Rattle.tm_hist.specs.Serial.{behind_step, core_of, flat_setting, list_step, steps_of};
 
 use crate::flat::{outside_on, outside_with, run_body, value_on};
 use crate::pair::{PackedOutcome, Pair};
 use crate::serial_core::SerialCore;
 use crate::usual::usual_step;
 use ia_decode::Decoded;
-use ia_flat::FlatAt;
 use ia_regs::Regs;
 use tm_core::takes_two_steps;
 use tm_model::Outcome;
+use tm_quick::Listing;
 use tm_rule::{Code, OutsideResult, Stop, fallback, fetch, row};
 use tm_whole::memory::write;
 
@@ -40,8 +39,8 @@ fn plain_step(
 ) -> Option<SerialCore>
     requires row { StandsAt code.now.bytes.now code.now.base regs.now.eip row.now }
     requires size { length memory.old ≡ size }
-    ensures step { after_plain memory.old (outside_at (setting_of code.now.bytes.now code.now.base size 0 0) regs.now
-        memory.old) ≡ option_map (λ c. (memory.new, core_of c)) result }
+    ensures step { after_plain memory.old (outside_at (flat_setting code.now size) regs.now memory.old)
+        ≡ behind_step memory.new result }
     ensures growth { IfSome result (λ c. steps_of c ≤ 1) }
 {
     match outside_on(row, code, size, memory, regs) {
@@ -63,10 +62,8 @@ fn load_step(
 ) -> Option<SerialCore>
     requires row { StandsAt code.now.bytes.now code.now.base regs.now.eip row.now }
     requires size { length memory.now ≡ size }
-    ensures step { after_load memory.now regs.now
-        (value_at (setting_of code.now.bytes.now code.now.base size 0 0) regs.now memory.now)
-        (outside_at (setting_of code.now.bytes.now code.now.base size 0 0) regs.now memory.now)
-        ≡ option_map (λ c. (memory.now, core_of c)) result }
+    ensures step { after_load memory.now regs.now (value_at (flat_setting code.now size) regs.now memory.now)
+        (outside_at (flat_setting code.now size) regs.now memory.now) ≡ behind_step memory.now result }
     ensures growth { IfSome result (λ c. steps_of c ≤ 1) }
 {
     match outside_on(row, code, size, memory, regs) {
@@ -90,7 +87,7 @@ fn store_step(
     requires row { StandsAt code.now.bytes.now code.now.base regs.now.eip row.now }
     requires size { length memory.old ≡ size }
     ensures step { after_plain memory.old (outside_of code.now.bytes.now code.now.base size regs.now value)
-        ≡ option_map (λ c. (memory.new, core_of c)) result }
+        ≡ behind_step memory.new result }
     ensures growth { IfSome result (λ c. steps_of c ≤ 1) }
 {
     match outside_with(row, code, size, regs, value) {
@@ -112,7 +109,7 @@ fn finish_step(
 ) -> Option<SerialCore>
     requires { length memory.old ≡ size }
     ensures step { after_plain memory.old (outside_of code.now.bytes.now code.now.base size regs.now value)
-        ≡ option_map (λ c. (memory.new, core_of c)) result }
+        ≡ behind_step memory.new result }
     ensures growth { IfSome result (λ c. steps_of c ≤ 1) }
 {
     match row(code, regs.eip) {
@@ -149,9 +146,8 @@ fn stop_step(
 ) -> Option<SerialCore>
     requires row { StandsAt code.now.bytes.now code.now.base regs.now.eip row.now }
     requires size { length memory.now ≡ size }
-    ensures step { after_stop memory.now regs.now stop
-        (outside_at (setting_of code.now.bytes.now code.now.base size 0 0) regs.now memory.now)
-        ≡ option_map (λ c. (memory.now, core_of c)) result }
+    ensures step { after_stop memory.now regs.now stop (outside_at (flat_setting code.now size) regs.now memory.now)
+        ≡ behind_step memory.now result }
     ensures growth { IfSome result (λ c. steps_of c ≤ 1) }
 {
     match outside_on(row, code, size, memory, regs) {
@@ -176,8 +172,8 @@ fn begin_step(
 ) -> Option<SerialCore>
     requires row { StandsAt code.now.bytes.now code.now.base regs.now.eip row.now }
     requires size { length memory.now ≡ size }
-    ensures step { after_begin memory.now regs.now (outside_at (setting_of code.now.bytes.now code.now.base size 0 0)
-        regs.now memory.now) ≡ option_map (λ c. (memory.now, core_of c)) result }
+    ensures step { after_begin memory.now regs.now (outside_at (flat_setting code.now size) regs.now memory.now)
+        ≡ behind_step memory.now result }
     ensures growth { IfSome result (λ c. steps_of c ≤ 1) }
 {
     match outside_on(row, code, size, memory, regs) {
@@ -197,8 +193,8 @@ fn closed_step(
 ) -> Option<SerialCore>
     requires row { StandsAt code.now.bytes.now code.now.base regs.now.eip row.now }
     requires size { length memory.old ≡ size }
-    ensures step { after_step_of (setting_of code.now.bytes.now code.now.base size 0 0) memory.old (Closed regs.now)
-        outcome.now ≡ option_map (λ c. (memory.new, core_of c)) result }
+    ensures step { after_step_of (flat_setting code.now size) memory.old (Closed regs.now) outcome.now
+        ≡ behind_step memory.new result }
     ensures growth { IfSome result (λ c. steps_of c ≤ 1) }
 {
     match outcome {
@@ -219,14 +215,13 @@ fn closed_step(
         Outcome::Stopped(stop) => stop_step(row, code, size, memory, regs, *stop),
         Outcome::Begun => begin_step(row, code, size, memory, regs),
         Outcome::Idle | Outcome::Inside | Outcome::Committed => None,
-        Outcome::Aborted(_) | Outcome::AbortedBy(_, _) => None,
+        Outcome::Aborted(_) | Outcome::AbortedBy(_, _) | Outcome::Drained => None,
     }
 }
 
 // The registers after an abort with this status.
 fn registers_after_abort(code: &Code<'_>, regs: &Regs, status: u32) -> Regs
-    ensures { (size : ℕ) → result ≡ registers_after_abort (setting_of code.now.bytes.now code.now.base size 0 0)
-        regs.now status }
+    ensures { (size : ℕ) → result ≡ registers_after_abort (flat_setting code.now size) regs.now status }
 {
     let mut next = *regs;
     next.set(0, status);
@@ -236,24 +231,23 @@ fn registers_after_abort(code: &Code<'_>, regs: &Regs, status: u32) -> Regs
 
 // A step of a core that has made so many steps since its XBEGIN.
 fn open_step(
-    lines: &[FlatAt],
-    code: &Code<'_>,
+    listing: &Listing<'_>,
     size: u32,
     memory: &mut [u8],
     regs: &Regs,
     steps: u64,
     outcome: &Outcome,
 ) -> Option<SerialCore>
-    requires lines { AreFlats code.now.bytes.now lines.now }
     requires size { length memory.old ≡ size }
     requires few { steps + 1 < 2 ^ 64 }
-    ensures step { after_step_of (setting_of code.now.bytes.now code.now.base size 0 0) memory.old
-        (Opened regs.now steps) outcome.now ≡ option_map (λ c. (memory.new, core_of c)) result }
+    ensures step { after_step_of (flat_setting listing.now.code size) memory.old (Opened regs.now steps) outcome.now
+        ≡ behind_step memory.new result }
     ensures growth { IfSome result (λ c. steps_of c ≤ steps + 1) }
 {
+    let code = &listing.code;
     match outcome {
         Outcome::Inside => Some(SerialCore::Opened(*regs, steps + 1)),
-        Outcome::Committed => match run_body(lines, code, size, memory, regs, steps + 1) {
+        Outcome::Committed => match run_body(listing, size, memory, regs, steps + 1) {
             Some(regs) => Some(SerialCore::Closed(regs)),
             None => None,
         },
@@ -265,32 +259,33 @@ fn open_step(
         ))),
         Outcome::Plain | Outcome::Loaded | Outcome::Stopped(_) | Outcome::Idle | Outcome::Begun =>
             None,
+        // Without a store buffer nothing is pending.
+        Outcome::Drained => None,
     }
 }
 
 // The core after its step of this outcome, where the rules of a run allow that; memory changes with it.
 fn core_step(
-    lines: &[FlatAt],
-    code: &Code<'_>,
+    listing: &Listing<'_>,
     size: u32,
     memory: &mut [u8],
     core: &SerialCore,
     outcome: &Outcome,
 ) -> Option<SerialCore>
-    requires lines { AreFlats code.now.bytes.now lines.now }
     requires size { length memory.old ≡ size }
     requires few { steps_of core.now + 1 < 2 ^ 64 }
-    ensures step { after_step_of (setting_of code.now.bytes.now code.now.base size 0 0) memory.old (core_of core.now)
-        outcome.now ≡ option_map (λ c. (memory.new, core_of c)) result }
+    ensures step { after_step_of (flat_setting listing.now.code size) memory.old (core_of core.now) outcome.now
+        ≡ behind_step memory.new result }
     ensures growth { IfSome result (λ c. steps_of c ≤ steps_of core.now + 1) }
 {
+    let code = &listing.code;
     match core {
         SerialCore::Closed(regs) => match row(code, regs.eip) {
             Some(row) => closed_step(row, code, size, memory, regs, outcome),
             None => closed_step(&fetch(code, regs.eip), code, size, memory, regs, outcome),
         },
         SerialCore::Opened(regs, steps) => {
-            open_step(lines, code, size, memory, regs, *steps, outcome)
+            open_step(listing, size, memory, regs, *steps, outcome)
         }
         SerialCore::Midway(regs, value) => match outcome {
             Outcome::Plain => finish_step(code, size, memory, regs, *value),
@@ -307,21 +302,19 @@ fn core_step(
 // are then of no use.
 #[inline(never)]
 fn other_step(
-    lines: &[FlatAt],
-    code: &Code<'_>,
+    listing: &Listing<'_>,
     size: u32,
     memory: &mut [u8],
     core: &mut SerialCore,
     outcome: &PackedOutcome,
 ) -> bool
-    requires lines { AreFlats code.now.bytes.now lines.now }
     requires size { length memory.old ≡ size }
     requires few { steps_of core.old + 1 < 2 ^ 64 }
-    ensures step { after_step_of (setting_of code.now.bytes.now code.now.base size 0 0) memory.old (core_of core.old)
+    ensures step { after_step_of (flat_setting listing.now.code size) memory.old (core_of core.old)
         (outcome_of outcome.now) ≡ (if result then Some (memory.new, core_of core.new) else None) }
     ensures growth { steps_of core.new ≤ steps_of core.old + 1 }
 {
-    match core_step(lines, code, size, memory, core, &outcome.unpacked()) {
+    match core_step(listing, size, memory, core, &outcome.unpacked()) {
         Some(next) => {
             *core = next;
             true
@@ -333,17 +326,15 @@ fn other_step(
 /// One step of a run: the pair of a core and its outcome. False where the rules of a run do not allow it.
 #[inline(always)]
 pub fn step(
-    lines: &[FlatAt],
-    code: &Code<'_>,
+    listing: &Listing<'_>,
     size: u32,
     memory: &mut [u8],
     cores: &mut [SerialCore],
     pair: &Pair,
 ) -> bool
-    requires lines { AreFlats code.now.bytes.now lines.now }
     requires size { length memory.old ≡ size }
     requires few { AllByRecursion (λ c. steps_of c + 1 < 2 ^ 64) cores.old }
-    ensures step { list_step (setting_of code.now.bytes.now code.now.base size 0 0) memory.old (map core_of cores.old)
+    ensures step { list_step (flat_setting listing.now.code size) memory.old (map core_of cores.old)
         (pair_of pair.now).0 (pair_of pair.now).1
         ≡ (if result then Some (memory.new, map core_of cores.new) else None) }
     ensures growth { (most : ℕ) → AllByRecursion (λ c. steps_of c ≤ most) cores.old →
@@ -354,15 +345,8 @@ pub fn step(
         return false;
     }
     let stepping = &mut cores[index];
-    if usual_step(
-        lines,
-        code.bytes,
-        code.base,
-        memory,
-        stepping,
-        &pair.outcome,
-    ) {
+    if usual_step(listing, memory, stepping, &pair.outcome) {
         return true;
     }
-    other_step(lines, code, size, memory, stepping, &pair.outcome)
+    other_step(listing, size, memory, stepping, &pair.outcome)
 }

@@ -1,5 +1,6 @@
 -- What steps tell of events.
-use Rattle.std.proofs.Common.{◌≡◌, ℕ, List, [], ◌∷◌, ◌++◌, false, Option, Some, None, refl, sym, subst, ⊎_elim, inr}
+use Rattle.std.proofs.Common.{◌≡◌, ℕ, List, [], ◌∷◌, ◌++◌, false, Option, Some, None, refl, sym, subst, ⊎_elim, inl}
+use Rattle.std.proofs.Common.{inr}
 use Rattle.std.proofs.Math.Seq.{drop-length}
 use Rattle.std.proofs.lemmas.List.Elements.{All-append, All-cons, All-nil, All-weaker}
 use Rattle.tm_hist.specs.Board.{ShownBoard, TellsOf}
@@ -8,14 +9,14 @@ use Rattle.tm_model.specs.declared.outcome.Event.TheVariants as event
 use Rattle.tm_model.specs.declared.outcome.Interference.TheVariants.{Interrupt, Eviction, Snoop}
 use Rattle.tm_model.specs.declared.outcome.Outcome.{Outcome}
 use Rattle.tm_model.specs.declared.outcome.Outcome.TheVariants.{Aborted, AbortedBy, Begun, Committed, Idle, Inside}
-use Rattle.tm_model.specs.declared.outcome.Outcome.TheVariants.{Loaded, Plain, Stopped}
+use Rattle.tm_model.specs.declared.outcome.Outcome.TheVariants.{Drained, Loaded, Plain, Stopped}
 use Rattle.tm_model.specs.Runs.{TellNoAbort, event_told, is_aborted_by}
 use Rattle.tm_pick.specs.Drawn.{AreDrawn}
 use Rattle.tm_pick.specs.Kinds.{IsOfKinds, all_kinds, no_kinds}
 use Rattle.tm_pick.specs.declared.events.Events.{Events}
 use Rattle.tm_pick.specs.declared.events.Events.TheVariants.{Never, Rate, Draw}
 use Rattle.tm_pick.specs.declared.kinds.Kinds.{Kinds}
-use Rattle.tm_work.specs.Events.{TellDrawn}
+use Rattle.tm_work.specs.Events.{IsAbortOfKinds, TellDrawn}
 use Rattle.tm_work.specs.Seats.{AreStepsMade, GoesOn, IsDisturbed, IsStepMade, new_part}
 use Rattle.tm_work.specs.declared.progress.Progress.{Progress}
 use Rattle.tm_work.specs.declared.progress.Receipt.{Receipt}
@@ -23,16 +24,32 @@ use Rattle.tm_work.proofs.Turns.{part_next}
 
 -- ---- one outcome
 
-none_told : (o : Outcome) → is_aborted_by o ≡ false → event_told o ≡ None
-none_told (AbortedBy by status) h = absurd (cc)
-none_told (Aborted status) h = refl
-none_told Plain h = refl
-none_told Loaded h = refl
-none_told (Stopped stop) h = refl
-none_told Idle h = refl
-none_told Begun h = refl
-none_told Inside h = refl
-none_told Committed h = refl
+-- no abort from outside is of any kinds
+of_none : (kinds : Kinds) (o : Outcome) → is_aborted_by o ≡ false → IsAbortOfKinds kinds o
+of_none kinds (AbortedBy by status) h = absurd (cc)
+of_none kinds (Aborted status) h = tt
+of_none kinds Plain h = tt
+of_none kinds Loaded h = tt
+of_none kinds (Stopped stop) h = tt
+of_none kinds Idle h = tt
+of_none kinds Begun h = tt
+of_none kinds Inside h = tt
+of_none kinds Committed h = tt
+of_none kinds Drained h = tt
+
+-- one that is told of its step's event is of the kinds of that
+of_told : (kinds : Kinds) (e : Option Event) (o : Outcome) → IsOfKinds kinds e → TellsOf e o → IsAbortOfKinds kinds o
+of_told kinds e (AbortedBy by status) h (inl none) = absurd (cc)
+of_told kinds e (AbortedBy by status) h (inr same) = subst (IsOfKinds kinds) (sym same) h
+of_told kinds e (Aborted status) h told = tt
+of_told kinds e Plain h told = tt
+of_told kinds e Loaded h told = tt
+of_told kinds e (Stopped stop) h told = tt
+of_told kinds e Idle h told = tt
+of_told kinds e Begun h told = tt
+of_told kinds e Inside h told = tt
+of_told kinds e Committed h told = tt
+of_told kinds e Drained h told = tt
 
 not_aborted : (o : Outcome) → event_told o ≡ None → is_aborted_by o ≡ false
 not_aborted (AbortedBy by status) h = absurd (cc)
@@ -44,6 +61,7 @@ not_aborted Idle h = refl
 not_aborted Begun h = refl
 not_aborted Inside h = refl
 not_aborted Committed h = refl
+not_aborted Drained h = refl
 
 -- a step that tells of no event, or of none
 pub told_none : (o : Outcome) → TellsOf None o → event_told o ≡ None
@@ -54,6 +72,7 @@ no_kind_comes None h = refl
 no_kind_comes (Some (event.Abort Interrupt)) h = absurd (cc)
 no_kind_comes (Some (event.Abort Eviction)) h = absurd (cc)
 no_kind_comes (Some (event.Abort Snoop)) h = absurd (cc)
+no_kind_comes (Some event.Drain) h = absurd (cc)
 
 -- events have kinds
 pub some_kinds : (events : Events) → (kinds : Kinds) × AreDrawn events kinds
@@ -67,7 +86,7 @@ abbrev Untold : ℕ × Outcome → Type 0
 Untold step = is_aborted_by step.1 ≡ false
 
 abbrev OfKinds : Kinds → ℕ × Outcome → Type 0
-OfKinds kinds step = IsOfKinds kinds (event_told step.1)
+OfKinds kinds step = IsAbortOfKinds kinds step.1
 
 drawn_nil : (events : Events) → TellDrawn events []
 drawn_nil Never = All-nil Untold
@@ -83,7 +102,7 @@ drawn_append Draw xs ys first then = tt
 drawn_alone : (events : Events) (xs : List (ℕ × Outcome)) → TellNoAbort xs → TellDrawn events xs
 drawn_alone Never xs h = h
 drawn_alone (Rate one_in kinds) xs h =
-    All-weaker Untold (OfKinds kinds) (λ x e. subst (IsOfKinds kinds) (sym (none_told x.1 e)) tt) xs h
+    All-weaker Untold (OfKinds kinds) (λ x e. of_none kinds x.1 e) xs h
 drawn_alone Draw xs h = tt
 
 drawn_one : (events : Events) (kinds : Kinds) (e : Option Event) (c : ℕ) (o : Outcome) → AreDrawn events kinds
@@ -94,12 +113,7 @@ drawn_one Never kinds e c o drawn of told =
     (All-nil Untold)
 drawn_one (Rate one_in asked) kinds e c o drawn of told =
     let is : IsOfKinds asked e = subst (λ (k : Kinds). IsOfKinds k e) drawn of in
-    All-cons (OfKinds asked) (c, o) []
-    (⊎_elim
-    (λ (none : event_told o ≡ None). subst (IsOfKinds asked) (sym none) tt)
-    (λ (same : event_told o ≡ e). subst (IsOfKinds asked) (sym same) is)
-    told)
-    (All-nil (OfKinds asked))
+    All-cons (OfKinds asked) (c, o) [] (of_told asked e o is told) (All-nil (OfKinds asked))
 drawn_one Draw kinds e c o drawn of told = tt
 
 -- ---- boards

@@ -21,5 +21,14 @@ no_board = record {
   limits = record { read_lines = 0; write_lines = 0 };
   limit = 0;
   history = [];
-  machine = record { code = []; base = 0; read_lines = 0; write_lines = 0; memory = []; views = [] };
+  machine = record {
+    code = [];
+    base = 0;
+    read_lines = 0;
+    write_lines = 0;
+    store_buffer = 0;
+    memory = [];
+    views = [];
+    pending = [];
+  };
 }

@@ -126,37 +126,6 @@ impl<'a, W: Watch> Steady<'a, W> {
         }
     }
 
-    // Bursts until the budget is used or the core makes no further step. Each begins with a meeting.
-    fn bursts<J: DeskIdentity, R: Wait>(
-        &self,
-        rt: &R,
-        desk: &Desk<J>,
-        seat: Seat<J>,
-        budget: u32,
-    ) -> Seat<J>
-        requires fresh { seat.progress.steps ≡ 0 }
-        requires events { J.events ≡ self.now.plan.events }
-        ensures { IsDone seat.core budget result }
-    {
-        let mut seat = seat;
-        let mut events = self.plan.of_core(seat.core());
-        let mut left = budget;
-        let mut due = budget.saturating_sub(PORTION);
-        while left > 0 {
-            self.meeting.meet();
-            let most = self.burst.next(budget - left).min(left);
-            if desk.turns_under(rt, &mut seat, most, &mut events) < most {
-                return seat;
-            }
-            left -= most;
-            if left < due {
-                due = left.saturating_sub(PORTION);
-                self.tell(&seat);
-            }
-        }
-        seat
-    }
-
     // Tells the watch how long the history was with the seat's last step. The seat knows, so no worker counts for all.
     fn tell<J: DeskIdentity>(&self, seat: &Seat<J>) {
         if let Some(receipt) = seat.last() {
@@ -168,6 +137,7 @@ impl<'a, W: Watch> Steady<'a, W> {
 impl<'a, W: Watch + Sync> Manner for Steady<'a, W> {
     ghost events = { λ steady. steady.plan.events };
 
+    // Bursts, each of which begins with a meeting.
     fn work<J: DeskIdentity, R: Wait>(
         &self,
         rt: &R,
@@ -175,7 +145,22 @@ impl<'a, W: Watch + Sync> Manner for Steady<'a, W> {
         seat: Seat<J>,
         budget: u32,
     ) -> Seat<J> {
-        let seat = self.bursts(rt, desk, seat, budget);
+        let mut seat = seat;
+        let mut events = self.plan.of_core(seat.core());
+        let mut left = budget;
+        let mut due = budget.saturating_sub(PORTION);
+        while left > 0 {
+            self.meeting.meet();
+            let most = self.burst.next(budget - left).min(left);
+            if desk.turns_under(rt, &mut seat, most, &mut events) < most {
+                break;
+            }
+            left -= most;
+            if left < due {
+                due = left.saturating_sub(PORTION);
+                self.tell(&seat);
+            }
+        }
         self.meeting.leave(1);
         seat
     }

@@ -9,7 +9,7 @@ use Rattle.tm_hist.proofs.one_memory.serial.Goals as goal
 
 pub run_history-requires-clause-size : goal.run_history-requires-clause-size
 run_history-requires-clause-size c =
-    ap length (c.deref_mut.ensures.value ∙ c.in_ok-memory.ensures.ok)
+    ap length (c.deref_mut.ensures.value ∙ c.in_ok-memory.ensures.memory)
     ∙ opening_size c.args.program.now c.mem_size.ensures.sound ∙ sym c.mem_size.ensures.size
 
 pub run_history-requires-clause-closed : goal.run_history-requires-clause-closed
@@ -33,14 +33,14 @@ returns-in-Ok-clause-ok c =
     (c.run_history.auto.cores ∙ ap length c.deref_mut-2.ensures.value)
     (sym c.deref_mut-2.ensures.len ∙ ap length c.deref_mut-2.ensures.value) in
     let P : List ℕ → Type 0 =
-    λ x. EndsWith (program_setting p 0 0) (opening_state p) h x
+    λ x. EndsWith (program_setting p 0 0 0) (opening_state p) h x
     (map core_of (take c.in_ok-cores.cores.len (cores2 ++ drop (length cores2) cores))) in
-    let Q : List SerialCore → Type 0 = λ x. EndsWith (program_setting p 0 0) (opening_state p) h m2 (map core_of x) in
+    let Q : List SerialCore → Type 0 = λ x. EndsWith (program_setting p 0 0 0) (opening_state p) h m2 (map core_of x) in
     subst P (sym back_m) (subst Q (sym back_c)
     (replayed p h c.code.result.now c.base.result c.mem_size.result c.deref_mut.result.now m2 c.deref_mut-2.result.now
     (map core_of cores2)
     c.code.ensures.code c.base.ensures.base c.mem_size.ensures.size
-    (c.deref_mut.ensures.value ∙ c.in_ok-memory.ensures.ok) (c.deref_mut-2.ensures.value ∙ c.in_ok-cores.ensures.ok)
+    (c.deref_mut.ensures.value ∙ c.in_ok-memory.ensures.memory) (c.deref_mut-2.ensures.value ∙ c.in_ok-cores.ensures.ok)
     c.in-Ok.ensures.ok))
 
 pub returns-in-Err-clause-err : goal.returns-in-Err-clause-err
@@ -48,5 +48,5 @@ returns-in-Err-clause-err c =
     inr (refused c.args.program.now (pairs_of c.args.history) c.code.result.now c.base.result c.mem_size.result
     c.deref_mut.result.now c.deref_mut-2.result.now c.in-Err.index
     c.code.ensures.code c.base.ensures.base c.mem_size.ensures.size
-    (c.deref_mut.ensures.value ∙ c.in_ok-memory.ensures.ok) (c.deref_mut-2.ensures.value ∙ c.in_ok-cores.ensures.ok)
+    (c.deref_mut.ensures.value ∙ c.in_ok-memory.ensures.memory) (c.deref_mut-2.ensures.value ∙ c.in_ok-cores.ensures.ok)
     c.in-Err.ensures.err)

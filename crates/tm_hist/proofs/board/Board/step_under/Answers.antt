@@ -7,7 +7,7 @@ use Rattle.tm_model.specs.declared.outcome.Outcome.TheVariants.{Idle}
 use Rattle.tm_hist.specs.Board.{IsOwedNext, IsStopped, ShownBoard, TellsAsShown, stop_shown}
 use Rattle.tm_hist.specs.History.{pair_of}
 use Rattle.tm_hist.specs.Machine.{shown_state}
-use Rattle.tm_hist.proofs.Boards.{is_history}
+use Rattle.tm_hist.proofs.Boards.{is_history, none_now}
 use Rattle.tm_hist.proofs.Idles.{idle_exactly}
 use Rattle.tm_hist.proofs.Stops.{stays_stopped}
 use Rattle.tm_hist.proofs.UnderEvents.{owed_behind, tells_as_shown}
@@ -33,7 +33,7 @@ returns-in-Ok-clause-idle c =
     (map pair_of c.self.inside.made.items) in
     let stands = h.is_run.takes.stands in
     let both = idle_exactly (Some c.args.event) c.self.inside.machine c.step_under.new.self h.is_run.takes.last doom
-    c.args.core c.in-Ok.told stands (c.in-Ok.ensures.exists.0 refl)
+    c.args.core c.in-Ok.told (none_now _ _ c.self.invariant c.args.core) stands (c.in-Ok.ensures.exists.0 refl)
     (c.in-Ok.ensures.ok h.is_run.takes.last doom stands) in
     subst (λ (b : ShownBoard). (c.in-Ok.told ≡ Idle) ↔ IsStopped b c.args.core) c.self.view_is both
 

@@ -1,6 +1,6 @@
 use Rattle.std.proofs.Common.{◌≡◌, ◌+◌}
 use Rattle.tm_pick.specs.Drawn.{AreDrawn}
-use Rattle.tm_work.proofs.manner.Steady.bursts.Given as goal
+use Rattle.tm_work.proofs.manner.SteadyManner.work.Given as goal
 
 abbrev pub invariant-loop-left : goal.invariant-loop-left
 invariant-loop-left g l = record {
