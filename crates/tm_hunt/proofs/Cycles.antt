@@ -9,7 +9,7 @@ use Rattle.tm_model.specs.Steps.{run}
 use Rattle.tm_model.specs.Conflicts.{Doomed}
 use Rattle.tm_model.specs.Setting.{Setting}
 use Rattle.tm_model.specs.Shown.{view_of}
-use Rattle.tm_model.specs.State.{State, opening_state}
+use Rattle.tm_model.specs.State.{State, opening_state, seen_by}
 use Rattle.tm_model.specs.declared.outcome.Event.{Event}
 use Rattle.tm_model.specs.declared.outcome.Outcome.{Outcome}
 use Rattle.tm_model.specs.declared.outcome.Pick.{Pick}
@@ -29,6 +29,9 @@ alike_back shown a b one other = record {
   each = λ core below.
       let here : core < length shown.views = (let e = one.count in omega arith) in
       sym (one.each core here) ∙ other.each core here;
+  pending = λ core below.
+      let here : core < length shown.views = (let e = one.count in omega arith) in
+      sym (one.pending core here) ∙ other.pending core here;
 }
 
 -- they stand for the same states
@@ -39,8 +42,11 @@ stands_alike a b state doomed rules alike stands = record {
   same_memory = alike.memory ∙ stands.same_memory;
   same_count = alike.count ∙ stands.same_count;
   each = λ core below.
-      subst (λ (s : Setting). view_of s state.memory (state.cores core) (doomed core) ≡ Some (view_at a core)) rules
+      subst (λ (s : Setting). view_of s (seen_by state core) (state.cores core) (doomed core) ≡ Some (view_at a core))
+      rules
       (stands.each core (let e = alike.count in omega arith) ∙ ap Some (sym (alike.each core below)));
+  same_pending = λ core below.
+      alike.pending core below ∙ stands.same_pending core (let e = alike.count in omega arith);
 }
 
 run_alike : (start a b : Machine) (state : State) (doomed : Doomed) (history : List (ℕ × Outcome)) → SameMachine a b →

@@ -7,14 +7,14 @@ use Rattle.tm_model.specs.Access.{memory_after}
 use Rattle.tm_model.specs.Isolated.{Body, isolated_body}
 use Rattle.tm_model.specs.Setting.{Setting, outside_at, value_at}
 use Rattle.tm_model.specs.Shown.{View, view_between, view_inside, view_midway, view_of, view_of_body, view_outside}
-use Rattle.tm_model.specs.State.{Closed, Core, Halted, Midway, Opened, State}
-use Rattle.tm_model.specs.Steps.{after_begin, after_commit, after_load, after_plain, after_step_of, after_stop, run}
-use Rattle.tm_model.specs.Steps.{state_with, step, stop_number}
-use Rattle.tm_model.specs.Types.{Begins, Goes, OutsideResult, Regs, Stop, Stops}
+use Rattle.tm_model.specs.State.{Closed, Core, Halted, Midway, Opened, Pending, State, seen_memory}
+use Rattle.tm_model.specs.Steps.{Next, after_begin, after_commit, after_load, after_plain, after_step, after_step_of}
+use Rattle.tm_model.specs.Steps.{after_stop, must_wait, run, settled, state_with, step, stop_number, store_buffered}
+use Rattle.tm_model.specs.Types.{Begins, Goes, OutsideResult, Regs, Stop, Stops, Store}
 use Rattle.tm_model.specs.declared.outcome.CoreState.TheVariants.{Running, Condemned, Stopped as AtStop}
 use Rattle.tm_model.specs.declared.outcome.Outcome.{Outcome}
 use Rattle.tm_model.specs.declared.outcome.Outcome.TheVariants.{Plain, Loaded, Stopped, Idle, Begun, Inside, Committed}
-use Rattle.tm_model.specs.declared.outcome.Outcome.TheVariants.{Aborted, AbortedBy}
+use Rattle.tm_model.specs.declared.outcome.Outcome.TheVariants.{Aborted, AbortedBy, Drained}
 use Rattle.tm_hist.specs.Board.{stop_shown}
 
 -- why a core of a state stopped, where it did
@@ -35,6 +35,7 @@ halt_told Inside = None
 halt_told Committed = None
 halt_told (Aborted status) = None
 halt_told (AbortedBy by status) = None
+halt_told Drained = None
 
 -- ---- what is shown
 
@@ -131,6 +132,7 @@ own_halt k m (Closed s) Inside p e none = cc
 own_halt k m (Closed s) Committed p e none = cc
 own_halt k m (Closed s) (Aborted status) p e none = cc
 own_halt k m (Closed s) (AbortedBy by status) p e none = cc
+own_halt k m (Closed s) Drained p e none = cc
 own_halt k m (Midway s value) Plain p e none = plain_halt m (k.outside s value) p e
 own_halt k m (Midway s value) Loaded p e none = cc
 own_halt k m (Midway s value) (Stopped why) p e none = cc
@@ -140,6 +142,7 @@ own_halt k m (Midway s value) Inside p e none = cc
 own_halt k m (Midway s value) Committed p e none = cc
 own_halt k m (Midway s value) (Aborted status) p e none = cc
 own_halt k m (Midway s value) (AbortedBy by status) p e none = cc
+own_halt k m (Midway s value) Drained p e none = cc
 own_halt k m (Halted s why) o p e none = cc
 own_halt k m (Opened s n) Plain p e none = cc
 own_halt k m (Opened s n) Loaded p e none = cc
@@ -151,26 +154,71 @@ own_halt k m (Opened s n) Committed p e none =
     option_and_then_some (after_commit m) (isolated_body k s m (suc n)) p e (λ b is e2. commit_halt m b p e2)
 own_halt k m (Opened s n) (Aborted status) p e none = halt_is _ p e
 own_halt k m (Opened s n) (AbortedBy by status) p e none = halt_is _ p e
+own_halt k m (Opened s n) Drained p e none = cc
+
+-- so it is, whether what it stores is pending now or in memory
+settled_core : (m : List ℕ) (left : Pending) (store : Option Store) (change : Change)
+    → (settled m left store change).1.1 ≡ change.1
+settled_core m left (Some store) change = refl
+settled_core m [] None change = refl
+settled_core m (oldest ∷ younger) None change = refl
+
+settled_halt : (k : Setting) (m : List ℕ) (x : Core) (o : Outcome) (left : Pending) (store : Option Store)
+    (seen : List ℕ) (waits : Bool) (change : Option Change) (to : Next) → after_step_of k seen x o ≡ change
+    → cond waits None (option_map (settled m left store) change) ≡ Some to → halt_of x ≡ None
+    → halt_of to.1.1 ≡ halt_told o
+settled_halt k m x o left store seen true change to is e none = cc
+settled_halt k m x o left store seen false None to is e none = cc
+settled_halt k m x o left store seen false (Some change) to is e none =
+    ap (λ (q : Next). halt_of q.1.1) (sym (same_Some (settled m left store change) to e))
+    ∙ ap halt_of (settled_core m left store change)
+    ∙ own_halt k seen x o change is none
+
+goes_halt : (k : Setting) (m : List ℕ) (x : Core) (o : Outcome) (left : Pending) (to : Next)
+    → cond (must_wait k (seen_memory m left) left x o) None
+    (option_map (settled m left (store_buffered k (seen_memory m left) x o)) (after_step_of k (seen_memory m left) x o))
+    ≡ Some to
+    → halt_of x ≡ None → halt_of to.1.1 ≡ halt_told o
+goes_halt k m x o left to e none =
+    settled_halt k m x o left (store_buffered k (seen_memory m left) x o) (seen_memory m left)
+    (must_wait k (seen_memory m left) left x o) (after_step_of k (seen_memory m left) x o) to refl e none
+
+-- a drain leaves the core as it is
+step_halt : (k : Setting) (m : List ℕ) (left : Pending) (x : Core) (o : Outcome) (to : Next)
+    → after_step k m left x o ≡ Some to → halt_of x ≡ None → halt_of to.1.1 ≡ halt_told o
+step_halt k m [] x Drained to e none = cc
+step_halt k m (oldest ∷ younger) x Drained to e none =
+    ap (λ (q : Next). halt_of q.1.1) (sym (same_Some _ to e)) ∙ none
+step_halt k m left x Plain to e none = goes_halt k m x Plain left to e none
+step_halt k m left x Loaded to e none = goes_halt k m x Loaded left to e none
+step_halt k m left x (Stopped why) to e none = goes_halt k m x (Stopped why) left to e none
+step_halt k m left x Idle to e none = goes_halt k m x Idle left to e none
+step_halt k m left x Begun to e none = goes_halt k m x Begun left to e none
+step_halt k m left x Inside to e none = goes_halt k m x Inside left to e none
+step_halt k m left x Committed to e none = goes_halt k m x Committed left to e none
+step_halt k m left x (Aborted status) to e none = goes_halt k m x (Aborted status) left to e none
+step_halt k m left x (AbortedBy by status) to e none = goes_halt k m x (AbortedBy by status) left to e none
 
 -- the step of a core, by its move
 pub record Moved (k : Setting) (a : State) (c : ℕ) (o : Outcome) (next : State) : Type 0 where
-  pub to : Change
-  pub moves : after_step_of k a.memory (a.cores c) o ≡ Some to
+  pub to : Next
+  pub moves : after_step k a.memory (a.pending c) (a.cores c) o ≡ Some to
   pub is : state_with a c to ≡ next
 
-by_move : (k : Setting) (a : State) (c : ℕ) (o : Outcome) (next : State) (b : Bool) (x : Option Change)
-    → after_step_of k a.memory (a.cores c) o ≡ x →
+by_move : (k : Setting) (a : State) (c : ℕ) (o : Outcome) (next : State) (b : Bool) (x : Option Next)
+    → after_step k a.memory (a.pending c) (a.cores c) o ≡ x →
     cond b (option_map (state_with a c) x) None ≡ Some next → Moved k a c o next
 by_move k a c o next false x moves e = cc
 by_move k a c o next true None moves e = cc
 by_move k a c o next true (Some p) moves e = record { to = p; moves = moves; is = same_Some (state_with a c p) next e }
 
 move_of : (k : Setting) (a : State) (c : ℕ) (o : Outcome) (next : State) → step k a c o ≡ Some next → Moved k a c o next
-move_of k a c o next e = by_move k a c o next (ltb c a.count) (after_step_of k a.memory (a.cores c) o) refl e
+move_of k a c o next e =
+    by_move k a c o next (ltb c a.count) (after_step k a.memory (a.pending c) (a.cores c) o) refl e
 
-cores_with : (a : State) (c j : ℕ) (p : Change) (b : Bool) → eqb j c ≡ b
-    → (state_with a c p).cores j ≡ cond b p.1 (a.cores j)
-cores_with a c j p b e = ap (λ (t : Bool). cond t p.1 (a.cores j)) e
+cores_with : (a : State) (c j : ℕ) (p : Next) (b : Bool) → eqb j c ≡ b
+    → (state_with a c p).cores j ≡ cond b p.1.1 (a.cores j)
+cores_with a c j p b e = ap (λ (t : Bool). cond t p.1.1 (a.cores j)) e
 
 pub other_same : (k : Setting) (a : State) (c : ℕ) (o : Outcome) (next : State) (j : ℕ) → step k a c o ≡ Some next
     → eqb j c ≡ false →
@@ -185,7 +233,7 @@ pub own_after : (k : Setting) (a : State) (c : ℕ) (o : Outcome) (next : State)
 own_after k a c o next e self none =
     let move = move_of k a c o next e in
     ap (λ (x : State). halt_of (x.cores c)) (sym move.is) ∙ (ap halt_of (cores_with a c c move.to true self)
-    ∙ own_halt k a.memory (a.cores c) o move.to move.moves none)
+    ∙ step_halt k a.memory (a.pending c) (a.cores c) o move.to move.moves none)
 
 -- ---- a history and one more step
 

@@ -3,7 +3,6 @@ use Rattle.std.proofs.Common.{◌≡◌, sym, subst, ℕ, ◌-◌, List, [], ◌
 use Rattle.std.specs.Prelude.{slice_range}
 use Rattle.std.proofs.lemmas.List.Elements.{All-append, All-cons, All-drop, All-nil, All-take, All-weaker}
 use Rattle.tm_model.specs.declared.outcome.Event.{Event}
-use Rattle.tm_model.specs.declared.outcome.Event.TheVariants as event
 use Rattle.tm_model.specs.declared.outcome.Pick.{Pick}
 use Rattle.tm_pick.specs.Kinds.{AreAmong, AreOfKinds, IsOfKinds}
 use Rattle.tm_pick.specs.declared.kinds.Kinds.{Kinds}
@@ -51,7 +50,7 @@ keeps_plain steps core = λ kinds h.
 of_among : (kinds others : Kinds) → AreAmong kinds others → (event : Option Event) → IsOfKinds kinds event →
     IsOfKinds others event
 of_among kinds others among None h = tt
-of_among kinds others among (Some (event.Abort by)) h = among by h
+of_among kinds others among (Some event) h = among event h
 
 -- what the run of a front comes to
 pub keeps_run : (kinds : Kinds) (front picks : List Pick) →

@@ -13,12 +13,12 @@ use Rattle.tm_hist.specs.Board.{IsHistory, IsStopped, SameBoard, ShownBoard as B
 use Rattle.tm_hist.specs.Machine.{core_count, shown_state}
 use Rattle.tm_model.specs.Runs.{doomed_at_end}
 use Rattle.tm_model.specs.Setting.{program_setting}
-use Rattle.tm_model.specs.State.{State, opening_state}
+use Rattle.tm_model.specs.State.{State, opening_state, seen_by}
 use Rattle.tm_model.specs.Steps.{run, step}
 use Rattle.tm_model.specs.Types.{Stop}
 use Rattle.tm_model.specs.declared.outcome.Outcome.{Outcome}
 use Rattle.tm_model.specs.declared.outcome.Outcome.TheVariants.{Plain, Loaded, Stopped, Idle, Begun, Inside, Committed}
-use Rattle.tm_model.specs.declared.outcome.Outcome.TheVariants.{Aborted, AbortedBy}
+use Rattle.tm_model.specs.declared.outcome.Outcome.TheVariants.{Aborted, AbortedBy, Drained}
 use Rattle.tm_hunt.specs.Runs.{AreLeft}
 use Rattle.tm_hunt.proofs.Halts.{halt_of, halt_told, other_same, own_after, run_last, shows_halt}
 
@@ -28,7 +28,7 @@ use Rattle.tm_hunt.proofs.Halts.{halt_of, halt_told, other_same, own_after, run_
 shown_is : (b : Board) (h : IsHistory b) (core : ℕ) → core < core_count b.machine
     → stop_shown (shown_state b.machine core) ≡ halt_of (h.end.cores core)
 shown_is b h core below =
-    shows_halt (machine_setting b.machine) h.end.memory (h.end.cores core)
+    shows_halt (machine_setting b.machine) (seen_by h.end core) (h.end.cores core)
     (doomed_at_end (board_setting b) (opening_state b.program) (λ _. None) b.history core)
     (view_at b.machine core) (h.stands.each core below)
 
@@ -52,13 +52,13 @@ step_is before after core outcome h l same more =
     subst (λ (made : List (ℕ × Outcome)). run (board_setting after) (opening_state after.program) made ≡ Some l.end)
     more l.is_run in
     let of_limits :
-    run (program_setting after.program before.limits.read_lines before.limits.write_lines) (opening_state after.program)
-    (before.history ++ (core, outcome) ∷ []) ≡ Some l.end =
-    subst (λ (limits : Limits). run (program_setting after.program limits.read_lines limits.write_lines)
+    run (program_setting after.program before.limits.read_lines before.limits.write_lines 0)
+    (opening_state after.program) (before.history ++ (core, outcome) ∷ []) ≡ Some l.end =
+    subst (λ (limits : Limits). run (program_setting after.program limits.read_lines limits.write_lines 0)
     (opening_state after.program) (before.history ++ (core, outcome) ∷ []) ≡ Some l.end) same.limits more_is in
     let of_program :
     run (board_setting before) (opening_state before.program) (before.history ++ (core, outcome) ∷ []) ≡ Some l.end =
-    subst (λ (program : Program). run (program_setting program before.limits.read_lines before.limits.write_lines)
+    subst (λ (program : Program). run (program_setting program before.limits.read_lines before.limits.write_lines 0)
     (opening_state program) (before.history ++ (core, outcome) ∷ []) ≡ Some l.end) same.program of_limits in
     run_last (board_setting before) (opening_state before.program) before.history (core, outcome) h.end l.end
     of_program h.is_run
@@ -78,6 +78,7 @@ stopped_told Inside why e = cc
 stopped_told Committed why e = cc
 stopped_told (Aborted status) why e = cc
 stopped_told (AbortedBy by status) why e = cc
+stopped_told Drained why e = cc
 
 none_told : (outcome : Outcome) → halt_told outcome ≡ None → (why : Stop) → outcome ≢ Stopped why
 none_told outcome none why = λ is. let e : None ≡ Some why = sym none ∙ ap halt_told is in cc

@@ -1,7 +1,7 @@
 -- A run that comes to a loop, and goes round in it for ever.
 use Rattle.std.specs.Prelude.{◌≡◌, ℕ, zero, suc, ◌+◌, ◌<◌, ◌≤◌, ◌==◌, if◌then◌else◌, List, [], ◌∷◌, ◌++◌, length}
 use Rattle.std.specs.Prelude.{Option, Some, None, drop, take}
-use Rattle.tm_core.specs.Theorem.{IsRun, ShownMachine as Machine, machine_setting, view_at}
+use Rattle.tm_core.specs.Theorem.{IsRun, ShownMachine as Machine, machine_setting, pending_at, view_at}
 use Rattle.tm_hist.specs.Board.{ShownBoard as Board, stop_shown}
 use Rattle.tm_hist.specs.Machine.{shown_state}
 use Rattle.tm_model.specs.Runs.{picks_of}
@@ -21,7 +21,7 @@ use Rattle.tm_hunt.specs.declared.trial.Trial.{Trial}
 
 -- the rules of a trial's machine
 abbrev pub trial_setting : Trial → Setting
-trial_setting trial = program_setting trial.program.now trial.limits.read_lines trial.limits.write_lines
+trial_setting trial = program_setting trial.program.now trial.limits.read_lines trial.limits.write_lines 0
 
 pub record IsMachineOf (trial : Trial) (machine : Machine) : Type 0 where
   pub rules : machine_setting machine ≡ trial_setting trial
@@ -31,11 +31,12 @@ pub record IsMachineOf (trial : Trial) (machine : Machine) : Type 0 where
 abbrev pub AreCoresAlike : Machine → Machine → ℕ → Type 0
 AreCoresAlike a b count = (core : ℕ) → core < count → view_at a core ≡ view_at b core
 
--- what is shown of memory and of each core is the same
+-- what is shown of memory and of each core is the same, with the stores that are pending
 pub record AreAlike (a b : Machine) : Type 0 where
   pub memory : a.memory ≡ b.memory
   pub count : length a.views ≡ length b.views
   pub each : AreCoresAlike a b (length a.views)
+  pub pending : (core : ℕ) → core < length a.views → pending_at a core ≡ pending_at b core
 
 -- these steps lead from a machine to another one, in each run that comes to the first
 pub record Makes (before after : Machine) (picks : List Pick) : Type 0 where

@@ -9,9 +9,12 @@ ghost use Rattle.tm_hunt.specs.Cycle.{AreAlike, AreCoresAlike};
 use tm_core::Machine;
 
 /// Whether two machines are shown alike: the cores, and memory, which is compared where all of them are alike.
+#[tactic(auto, using(tm_core::proofs::NonePending::none_alike))]
 pub fn are_alike(a: &Machine, b: &Machine) -> bool
     ensures { IsTrue result → AreAlike a.now b.now }
 {
+    a.nothing_pending();
+    b.nothing_pending();
     are_cores_alike(a, b) && a.view() == b.view()
 }
 

@@ -6,6 +6,7 @@ use Rattle.std.specs.Prelude.{All, MatchOption, option_and_then, option_map}
 use Rattle.std.proofs.lemmas.List.{append-nil, replicate_more}
 use Rattle.std.proofs.lemmas.List.Elements.{All-head, All-tail}
 use Rattle.tm_core.specs.Theorem.{TakesAlone, machine_setting}
+use Rattle.tm_model.proofs.NonePending.{NonePending, none_behind, tells_none}
 use Rattle.tm_model.specs.Conflicts.{Doomed, doomed_after}
 use Rattle.tm_model.specs.Runs.{AreOwed, TellNoAbort, doomed_at_end, event_told, is_aborted_by, pick_of, picks_of}
 use Rattle.tm_model.specs.Setting.{Setting}
@@ -13,8 +14,6 @@ use Rattle.tm_model.specs.State.{State}
 use Rattle.tm_model.specs.Steps.{run, step}
 use Rattle.tm_model.specs.declared.outcome.Event.{Event}
 use Rattle.tm_model.specs.declared.outcome.Outcome.{Outcome}
-use Rattle.tm_model.specs.declared.outcome.Outcome.TheVariants.{Plain, Loaded, Stopped, Idle, Begun, Inside}
-use Rattle.tm_model.specs.declared.outcome.Outcome.TheVariants.{Committed, Aborted, AbortedBy}
 use Rattle.tm_model.specs.declared.outcome.Pick.{Pick}
 use Rattle.tm_outcomes.specs.Outcomes.{trial_opening, trial_setting}
 use Rattle.tm_outcomes.specs.Places.{IsAhead, IsAt, IsPlaceOf, alone}
@@ -22,6 +21,7 @@ use Rattle.tm_outcomes.specs.Schedules.{Situation, after_pick, after_schedule, w
 use Rattle.tm_outcomes.specs.declared.place.Place.{Place}
 use Rattle.tm_outcomes.specs.declared.replay.Ahead.{Ahead}
 use Rattle.tm_outcomes.specs.declared.trial.Trial.{Trial}
+use Rattle.tm_outcomes.proofs.NonePending.{none_reached}
 use Rattle.tm_outcomes.proofs.Runs.{run_then}
 use Rattle.tm_outcomes.proofs.Somes.{same_in}
 
@@ -65,29 +65,29 @@ runs_as setting (taken ∷ history) now last owed is_run =
 
 -- ---- of one core
 
-told_none : (outcome : Outcome) → is_aborted_by outcome ≡ false → event_told outcome ≡ None
-told_none (AbortedBy by status) tells = cc
-told_none (Aborted status) tells = refl
-told_none Plain tells = refl
-told_none Loaded tells = refl
-told_none (Stopped stop) tells = refl
-told_none Idle tells = refl
-told_none Begun tells = refl
-told_none Inside tells = refl
-told_none Committed tells = refl
-
-picks_alone : (core : ℕ) (history : List (ℕ × Outcome)) → All (λ (taken : ℕ × Outcome). taken.0 ≡ core) history
-    → TellNoAbort history →
+-- where no store is pending, none drains
+picks_alone : (setting : Setting) (state : State) (doomed : Doomed) (core : ℕ) (history : List (ℕ × Outcome))
+    → setting.store_buffer ≡ 0 → NonePending state → AreOwed setting state doomed history
+    → All (λ (taken : ℕ × Outcome). taken.0 ≡ core) history → TellNoAbort history →
     picks_of history ≡ replicate (length history) (alone core)
-picks_alone core [] own tells = refl
-picks_alone core (taken ∷ history) own tells =
+picks_alone setting state doomed core [] off none owed own tells = refl
+picks_alone setting state doomed core (taken ∷ history) off none owed own tells =
     let P : ℕ × Outcome → Type 0 = λ t. t.0 ≡ core in
     let Q : ℕ × Outcome → Type 0 = λ t. is_aborted_by t.1 ≡ false in
-    ap (λ (n : ℕ). record { core = n; event = event_told taken.1 } ∷ picks_of history) (All-head P taken history own)
-    ∙ (ap (λ (e : Option Event). record { core = core; event = e } ∷ picks_of history)
-    (told_none taken.1 (All-head Q taken history tells))
-    ∙ ap (λ (ps : List Pick). alone core ∷ ps)
-    (picks_alone core history (All-tail P taken history own) (All-tail Q taken history tells)))
+    (elim (step setting state taken.0 taken.1) as (λ after. step setting state taken.0 taken.1 ≡ after →
+    MatchOption after ⊥ (λ next. AreOwed setting next (doomed_after setting state doomed taken.0 taken.1) history) →
+    picks_of (taken ∷ history) ≡ replicate (length (taken ∷ history)) (alone core)) [
+      | None ↦ λ is never. absurd never
+      | Some next ↦ λ is more.
+          ap (λ (n : ℕ). record { core = n; event = event_told taken.1 } ∷ picks_of history)
+          (All-head P taken history own)
+          ∙ (ap (λ (e : Option Event). record { core = core; event = e } ∷ picks_of history)
+          (tells_none setting state taken.0 taken.1 next none is (All-head Q taken history tells))
+          ∙ ap (λ (ps : List Pick). alone core ∷ ps)
+          (picks_alone setting next (doomed_after setting state doomed taken.0 taken.1) core history off
+          (none_behind setting state taken.0 taken.1 next off none is) more (All-tail P taken history own)
+          (All-tail Q taken history tells)))
+    ]) refl owed.1
 
 module _ (trial : Trial) (before after : Place) (core count : ℕ)
     (takes : TakesAlone before.machine after.machine core count) where
@@ -103,7 +103,10 @@ module _ (trial : Trial) (before after : Place) (core count : ℕ)
       let t = all.takes at.now.state at.now.doomed at.stands in
       let end : Situation = ended_at setting at.now history t.last in
       let picks : picks_of history ≡ replicate count (alone core) =
-      picks_alone core history own all.tells ∙ ap (λ n. replicate n (alone core)) long in
+      picks_alone setting at.now.state at.now.doomed core history
+      (ap (λ (s : Setting). s.store_buffer) at.rules) (none_reached trial schedule at.now at.is_run) t.are_owed own
+      all.tells
+      ∙ ap (λ n. replicate n (alone core)) long in
       let runs : after_schedule (trial_setting trial) at.now (replicate count (alone core)) ≡ Some end =
       subst (λ (s : Setting). after_schedule s at.now (replicate count (alone core)) ≡ Some end) at.rules
       (subst (λ (ps : List Pick). after_schedule setting at.now ps ≡ Some end) picks

@@ -13,13 +13,14 @@ use Rattle.tm_outcomes.specs.Outcomes.{IsAllowed, trial_opening, trial_setting}
 use Rattle.tm_outcomes.specs.Places.{IsAt, IsPlaceOf}
 use Rattle.tm_outcomes.specs.Resting.{Advances}
 use Rattle.tm_outcomes.specs.Schedules.{Situation, after_schedule}
-use Rattle.tm_outcomes.specs.Written.{IsAtNode, IsBenchOf, IsPlaceIn, IsWithin, IsWrittenOf, StoresOn}
+use Rattle.tm_outcomes.specs.Written.{IsAtNode, IsBenchOf, IsPlaceIn, IsWithin, IsWrittenOf, KeepsNoted, StoresOn}
 use Rattle.tm_outcomes.specs.declared.bench.Bench.{Bench}
 use Rattle.tm_outcomes.specs.declared.nodes.Node.{Node}
 use Rattle.tm_outcomes.specs.declared.place.Place.{Place}
 use Rattle.tm_outcomes.specs.declared.trial.Trial.{Trial}
 use Rattle.tm_outcomes.specs.declared.written.Written.{Written}
 use Rattle.tm_outcomes.proofs.Catching.{lead_memory, lead_runs}
+use Rattle.tm_outcomes.proofs.NonePending.{none_pick, none_reached}
 use Rattle.tm_outcomes.proofs.Runs.{run_then}
 use Rattle.tm_outcomes.proofs.Somes.{same_in}
 use Rattle.tm_outcomes.proofs.Stored.{on_more, then_same}
@@ -33,18 +34,19 @@ pub within_more : (trial : Trial) (lines more : List ℕ) (schedule : List Pick)
 within_more trial lines more schedule among within = λ now is_run.
     on_more lines more now.state.memory (opening_memory trial.program.now) among (within now is_run)
 
-module _ (trial : Trial) (before after : Written) (same : after.opening ≡ before.opening)
-    (among : (line : ℕ) → Contains before.lines.items line → Contains after.lines.items line) where
+module _ (trial : Trial) (before after : Written) (keeps : KeepsNoted before after) where
   opening_is : before.opening.items ≡ opening_memory trial.program.now
       → after.opening.items ≡ opening_memory trial.program.now
-  opening_is is = ap (λ v. v.items) same ∙ is
+  opening_is is = ap (λ v. v.items) keeps.opening ∙ is
 
   pub place_more : (place : Place) → IsPlaceIn trial before place → IsPlaceIn trial after place
   place_more place is = record {
     place = is.place;
     opening = opening_is is.opening;
-    memory = subst (λ m. IsSameElsewhere after.lines.items place.machine.memory m) (sym (ap (λ v. v.items) same))
-        (on_more before.lines.items after.lines.items place.machine.memory before.opening.items among is.memory);
+    memory = subst (λ m. IsSameElsewhere after.lines.items place.machine.memory m)
+        (sym (ap (λ v. v.items) keeps.opening))
+        (on_more before.lines.items after.lines.items place.machine.memory before.opening.items keeps.kept
+        is.memory);
   }
 
   pub written_more : (nodes : List Node) → IsWrittenOf trial nodes before → IsWrittenOf trial nodes after
@@ -53,7 +55,7 @@ module _ (trial : Trial) (before after : Written) (same : after.opening ≡ befo
     schedules = is.schedules;
     tree = is.tree;
     within = λ index below.
-        within_more trial before.lines.items after.lines.items (schedule_at is.schedules index) among
+        within_more trial before.lines.items after.lines.items (schedule_at is.schedules index) keeps.kept
         (is.within index below);
   }
 
@@ -76,7 +78,9 @@ within_advanced trial lines schedule place after pick steps at advances within n
     (subst (λ (s : List Pick). after_schedule setting at.now s ≡ Some step.end) (sym advances.made) runs) in
     let same : step.end ≡ now = same_in (sym ends ∙ is_run) in
     let memory : step.end.state.memory ≡ step.next.state.memory =
-    lead_memory setting (IsAllowed trial.events) advances.rest step.next step.end step.rests in
+    lead_memory setting (IsAllowed trial.events) advances.rest step.next step.end refl
+    (none_pick setting at.now step.next pick refl (none_reached trial schedule at.now at.is_run) step.is_next)
+    step.rests in
     subst (λ (x : Situation). IsSameElsewhere lines x.state.memory (opening_memory trial.program.now)) same
     (subst (λ m. IsSameElsewhere lines m (opening_memory trial.program.now)) (sym memory)
     (then_same lines step.next.state.memory at.now.state.memory (opening_memory trial.program.now)
@@ -173,16 +177,15 @@ at_grown trial nodes after node schedules place (Some index) tree added parent a
 
 -- a bench behind a step of the state that goes on, with more lines
 pub bench_advanced : (trial : Trial) (nodes : List Node) (bench : Bench) (here : Place) (noted : Written) →
-    noted.opening ≡ bench.noted.opening →
-    ((line : ℕ) → Contains bench.noted.lines.items line → Contains noted.lines.items line) →
+    KeepsNoted bench.noted noted →
     IsPlaceIn trial noted here → IsBenchOf trial nodes bench
     → IsBenchOf trial nodes (record bench { here = here; noted = noted })
-bench_advanced trial nodes bench here noted same among is_in is = record {
-  start = place_more trial bench.noted noted same among bench.start is.start;
+bench_advanced trial nodes bench here noted keeps is_in is = record {
+  start = place_more trial bench.noted noted keeps bench.start is.start;
   at = is.at;
   here = is_in;
-  other = place_more trial bench.noted noted same among bench.other is.other;
-  written = written_more trial bench.noted noted same among nodes is.written;
+  other = place_more trial bench.noted noted keeps bench.other is.other;
+  written = written_more trial bench.noted noted keeps nodes is.written;
 }
 
 -- and for a node more

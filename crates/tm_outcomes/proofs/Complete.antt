@@ -17,6 +17,7 @@ use Rattle.tm_outcomes.specs.declared.links.Link.{Link}
 use Rattle.tm_outcomes.specs.declared.searching.Searching.{Searching}
 use Rattle.tm_outcomes.specs.declared.trial.Trial.{Trial}
 use Rattle.tm_outcomes.proofs.Catching.{catches_up, ended_rests, split, then_lead}
+use Rattle.tm_outcomes.proofs.NonePending.{leads_none, none_pick}
 use Rattle.tm_outcomes.proofs.Somes.{same_in}
 
 -- only a core that is there steps
@@ -88,7 +89,8 @@ module _ (trial : Trial) (schedules : List (List Pick)) (links : List Link)
       let under : Option Event → Type 0 = IsAllowed trial.events in
       let parts = split (after_pick setting now pick) (λ next. after_schedule setting next picks) end e in
       let step = steps_to pick now parts.0 index (All-head (IsAllowedIn trial) pick picks allowed) leads parts.1.0 in
-      let up = catches_up setting under picks step.rest parts.0 step.end end step.rests
+      let none = none_pick setting now parts.0 pick refl (leads_none trial schedules index now leads) parts.1.0 in
+      let up = catches_up setting under picks step.rest parts.0 step.end end refl none step.rests
       (All-tail (IsAllowedIn trial) pick picks allowed) parts.1.1 in
       let met = reach most up.picks step.end up.last step.to (let f = up.few in omega arith) up.are_allowed
       step.leads up.is_run in
@@ -109,7 +111,7 @@ leads_here trial schedules index now within is_run count = record {
   within = within;
   end = now;
   is_run = is_run;
-  same = record { memory = refl; count = refl; each = λ core below. refl };
+  same = record { memory = refl; count = refl; each = λ core below. refl; pending = λ core below. refl };
   count = count;
 }
 

@@ -1,20 +1,15 @@
 -- A node whose core's steps are followed under several events, one after another.
-use Rattle.std.proofs.Common.{◌≡◌, ◌⊎◌, inl, inr, ℕ, ◌+◌, ◌<◌, ◌≤◌, List, [], ◌∷◌, ◌++◌, Option, Some, None, Result}
+use Rattle.std.proofs.Common.{◌≡◌, ◌⊎◌, inl, inr, ℕ, ◌+◌, ◌<◌, ◌≤◌, List, [], ◌∷◌, ◌++◌, Option, Some, None}
 use Rattle.std.proofs.Common.{length, get_or}
 use Rattle.std.proofs.Common.{take, append_assoc, refl, sym, ap, ◌∙◌, subst, arith, length-append}
 use Rattle.std.proofs.lemmas.List.{append-nil, take_more}
 use Rattle.std.proofs.lemmas.List.Elements.{Contains-push_cases}
-use Rattle.std.proofs.lemmas.Result.{IfOk-weaker}
-use Rattle.std.specs.Result.{IfOk}
 use Rattle.tm_model.specs.declared.outcome.Event.{Event}
 use Rattle.tm_model.specs.declared.outcome.Pick.{Pick}
 use Rattle.tm_outcomes.specs.Nodes.{HaveSchedules, IsFollowed, IsTree, IsUntouched, schedule_at}
 use Rattle.tm_outcomes.specs.Outcomes.{IsNoneOrOneOf}
 use Rattle.tm_outcomes.specs.Searching.{IsFollowedIn, IsOneOf, IsThis}
-use Rattle.tm_outcomes.specs.declared.fault.SearchFault.{SearchFault}
 use Rattle.tm_outcomes.specs.declared.links.Link.{Link}
-use Rattle.tm_outcomes.specs.declared.searching.Progress.{Progress}
-use Rattle.tm_outcomes.specs.declared.searching.Progress.TheVariants.{GoesOn}
 use Rattle.tm_outcomes.specs.declared.searching.Searching.{Searching}
 use Rattle.tm_outcomes.specs.declared.trial.Trial.{Trial}
 use Rattle.tm_outcomes.proofs.Benches.{one_schedule}
@@ -221,10 +216,3 @@ module _ (trial : Trial) (most index core : ℕ) where
               leads = step.leads;
             };
       }
-
--- a search that goes on has done the one, and so the other
-pub does : (done more : Type 0) → (done → more) → (r : Result Progress SearchFault) →
-    IfOk r (λ progress. progress ≡ GoesOn → done) → IfOk r (λ progress. progress ≡ GoesOn → more)
-does done more so r goes =
-    IfOk-weaker r (λ (progress : Progress). progress ≡ GoesOn → done)
-    (λ (progress : Progress). progress ≡ GoesOn → more) (λ (progress : Progress) is on. so (is on)) goes

@@ -6,10 +6,11 @@ use Rattle.std.proofs.lemmas.Bool.{eqb-true, lt-ltb}
 use Rattle.ia_regs.specs.declared.Regs.{Regs}
 use Rattle.tm_rule.specs.declared.kinds.Stop.{Stop}
 use Rattle.tm_core.specs.Theorem.{view_at}
-use Rattle.tm_model.specs.Conflicts.{addresses_loaded_by, addresses_stored_by, doom_after_other, doom_after_own}
+use Rattle.tm_model.proofs.NonePending.{pending_stays, written_is}
+use Rattle.tm_model.specs.Conflicts.{addresses_loaded_by, addresses_written_by, doom_after_other, doom_after_own}
 use Rattle.tm_model.specs.Owed.{owed_under}
 use Rattle.tm_model.specs.Setting.{Setting}
-use Rattle.tm_model.specs.State.{Core, Halted}
+use Rattle.tm_model.specs.State.{Core, Halted, seen_by}
 use Rattle.tm_model.specs.Steps.{after_step_of}
 use Rattle.tm_model.specs.declared.outcome.Event.{Event}
 use Rattle.tm_model.specs.declared.outcome.Event.TheVariants as event
@@ -23,16 +24,19 @@ use Rattle.tm_outcomes.specs.declared.place.Place.{Place}
 use Rattle.tm_outcomes.specs.declared.trial.Trial.{Trial}
 use Rattle.tm_outcomes.proofs.Crossing.{moved, picks, same_situation}
 use Rattle.tm_outcomes.proofs.Leads.{leads_stands, shows}
+use Rattle.tm_outcomes.proofs.NonePending.{leads_none}
 use Rattle.tm_outcomes.proofs.Shown.{halted_is}
 use Rattle.tm_outcomes.proofs.UnseenCores.{untouched}
 
 owed_idle : (by : Option Event) (setting : Setting) (memory : List ℕ) (regs : Regs) (stop : Stop) (doom : Option ℕ) →
-    owed_under by setting memory (Halted regs stop) doom ≡ Idle
+    owed_under by setting memory [] (Halted regs stop) doom ≡ Idle
 owed_idle None setting memory regs stop doom = refl
+owed_idle (Some event.Drain) setting memory regs stop doom = refl
 owed_idle (Some (event.Abort by)) setting memory regs stop doom = refl
 
 module _ (setting : Setting) (now : Situation) (core : ℕ) (regs : Regs) (stop : Stop)
-    (halted : now.state.cores core ≡ Halted regs stop) where
+    (halted : now.state.cores core ≡ Halted regs stop) (off : setting.store_buffer ≡ 0)
+    (left : now.state.pending core ≡ []) where
   abbrev memory : List ℕ
   memory = now.state.memory
 
@@ -42,26 +46,36 @@ module _ (setting : Setting) (now : Situation) (core : ℕ) (regs : Regs) (stop 
   core_stays number true is = sym halted ∙ ap now.state.cores (sym (eqb-true number core is))
   core_stays number false is = refl
 
+  abbrev loads : Core → List ℕ
+  loads x = addresses_loaded_by setting (seen_by now.state core) x Idle
+
+  abbrev writes : Core → List ℕ
+  writes x = addresses_written_by setting memory (now.state.pending core) x Idle
+
   doom_stays : (number : ℕ) (own : Bool) → nat_eq number core ≡ own →
       cond own (doom_after_own Idle (now.doomed core))
-      (doom_after_other setting memory (addresses_loaded_by setting memory (now.state.cores core) Idle)
-      (addresses_stored_by setting memory (now.state.cores core) Idle) (now.state.cores number) (now.doomed number))
+      (doom_after_other setting (seen_by now.state number) (loads (now.state.cores core))
+      (writes (now.state.cores core)) (now.state.cores number) (now.doomed number))
       ≡ now.doomed number
   doom_stays number true is = ap now.doomed (sym (eqb-true number core is))
   doom_stays number false is =
-      ap (λ (x : Core). doom_after_other setting memory (addresses_loaded_by setting memory x Idle)
-      (addresses_stored_by setting memory x Idle) (now.state.cores number) (now.doomed number)) halted
-      ∙ untouched setting memory (now.state.cores number) (now.doomed number)
+      let seen : List ℕ = seen_by now.state number in
+      ap (λ (x : Core). doom_after_other setting seen (loads x) (writes x) (now.state.cores number) (now.doomed number))
+      halted
+      ∙ (ap (λ (l : List ℕ). doom_after_other setting seen [] l (now.state.cores number) (now.doomed number))
+      (written_is setting memory (now.state.pending core) (Halted regs stop) Idle off left)
+      ∙ untouched setting seen (now.state.cores number) (now.doomed number))
 
   stays : moved setting now core Idle (memory, Halted regs stop) ≡ now
   stays = same_situation (moved setting now core Idle (memory, Halted regs stop)) now refl refl
-      (λ number. core_stays number (nat_eq number core) refl) (λ number. doom_stays number (nat_eq number core) refl)
+      (λ number. core_stays number (nat_eq number core) refl) (λ number. pending_stays now.state core number left)
+      (λ number. doom_stays number (nat_eq number core) refl)
 
   idles : (by : Option Event) → nat_lt core now.state.count ≡ true
       → after_pick setting now (record { core = core; event = by }) ≡ Some now
   idles by below =
-      picks setting now (record { core = core; event = by }) Idle (memory, Halted regs stop) below
-      (ap (λ (x : Core). owed_under by setting memory x (now.doomed core)) halted
+      picks setting now (record { core = core; event = by }) Idle (memory, Halted regs stop) off left below
+      (ap (λ (x : Core). owed_under by setting memory [] x (now.doomed core)) halted
       ∙ owed_idle by setting memory regs stop (now.doomed core))
       (ap (λ (x : Core). after_step_of setting memory x Idle) halted)
       ∙ ap Some stays
@@ -73,13 +87,15 @@ pub leads_back : (trial : Trial) (schedules : List (List Pick)) (index : ℕ) (p
 leads_back trial schedules index place pick is_core at stopped = λ now leads.
     let setting : Setting = trial_setting trial in
     let stands = leads_stands trial schedules index place now at leads in
-    let halted = halted_is setting now.state.memory (now.state.cores pick.core) (now.doomed pick.core)
+    let below : pick.core < now.state.count = (let count = leads.count in omega arith) in
+    let left : now.state.pending pick.core ≡ [] = leads_none trial schedules index now leads pick.core below in
+    let halted = halted_is setting (seen_by now.state pick.core) (now.state.cores pick.core) (now.doomed pick.core)
     (view_at place.machine pick.core)
     (shows place.machine setting now at.rules stands pick.core (let count = at.count in omega arith)) stopped in
     record {
       next = now;
-      is_next = idles setting now pick.core halted.0 halted.1.0 halted.1.1 pick.event
-          (lt-ltb pick.core now.state.count (let count = leads.count in omega arith));
+      is_next = idles setting now pick.core halted.0 halted.1.0 halted.1.1 refl left pick.event
+          (lt-ltb pick.core now.state.count below);
       rest = [];
       end = now;
       rests = refl;

@@ -35,6 +35,7 @@ alike_then a b c one other = record {
   memory = one.memory ∙ other.memory;
   count = one.count ∙ other.count;
   each = λ core below. one.each core below ∙ other.each core (let same = one.count in omega arith);
+  pending = λ core below. one.pending core below ∙ other.pending core (let same = one.count in omega arith);
 }
 
 pub alike_back : (a b : Place) → AreAlike a b → AreAlike b a
@@ -42,6 +43,7 @@ alike_back a b alike = record {
   memory = sym alike.memory;
   count = sym alike.count;
   each = λ core below. sym (alike.each core (let same = alike.count in omega arith));
+  pending = λ core below. sym (alike.pending core (let same = alike.count in omega arith));
 }
 
 -- machines at situations that are the same
@@ -58,6 +60,12 @@ same_alike trial a b s t here there same = record {
       (sym (shows a.machine (trial_setting trial) here.now here.rules here.stands core below)
       ∙ (same.each core (omega arith)
       ∙ shows b.machine (trial_setting trial) there.now there.rules there.stands core (omega arith)));
+  pending = λ core below.
+      let first = here.stands.same_count in
+      let second = there.stands.same_count in
+      let count = same.count in
+      here.stands.same_pending core below
+      ∙ (same.pending core (omega arith) ∙ sym (there.stands.same_pending core (omega arith)));
 }
 
 -- machines at the end of one schedule
@@ -67,7 +75,7 @@ at_alike trial a b schedule here there =
     let now : here.now ≡ there.now = same_in (sym here.is_run ∙ there.is_run) in
     same_alike trial a b schedule schedule here there
     (subst (λ (x : Situation). AreSame trial here.now x) now
-    (record { memory = refl; count = refl; each = λ core below. refl }))
+    (record { memory = refl; count = refl; each = λ core below. refl; pending = λ core below. refl }))
 
 -- ---- nodes that are others
 

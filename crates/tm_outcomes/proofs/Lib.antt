@@ -1,5 +1,6 @@
 pub mod Somes
 pub mod Runs
+pub mod NonePending
 pub mod Sparing
 pub mod Alone
 pub mod UnseenCores
@@ -14,11 +15,13 @@ pub mod Trees
 pub mod Along
 pub mod Stored
 pub mod Noted
+pub mod Noting
 pub mod Benches
 pub mod Digests
 pub mod Kept
 pub mod Follows
 pub mod Grown
+pub mod Following
 pub mod Joined
 pub mod Stopping
 pub mod Seeing

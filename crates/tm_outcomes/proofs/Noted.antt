@@ -17,6 +17,7 @@ use Rattle.tm_core.specs.Reopening.{IsSameElsewhere}
 use Rattle.tm_model.specs.Access.{Lines, lines_of, memory_after, stored_addresses}
 use Rattle.tm_model.specs.Explained.{addresses_stored_at}
 use Rattle.tm_model.specs.Isolated.{Body, isolated_body, write_set}
+use Rattle.tm_model.proofs.NonePending.{PlainStep, owed_is, plain_step}
 use Rattle.tm_model.specs.Owed.{owed_outcome, owed_under}
 use Rattle.tm_model.specs.Setting.{Setting, outside_at, value_at}
 use Rattle.tm_model.specs.Shown.{View, view_inside, view_midway, view_of, view_of_body, view_outside}
@@ -28,10 +29,10 @@ use Rattle.tm_model.specs.declared.outcome.CoreState.{CoreState}
 use Rattle.tm_model.specs.declared.outcome.CoreState.TheVariants.{Running, Mid, Condemned, Stopped as AtStop}
 use Rattle.tm_model.specs.declared.outcome.Outcome.{Outcome}
 use Rattle.tm_model.specs.declared.outcome.Outcome.TheVariants.{Plain, Loaded, Stopped, Idle, Begun, Inside}
-use Rattle.tm_model.specs.declared.outcome.Outcome.TheVariants.{Committed, Aborted, AbortedBy}
+use Rattle.tm_model.specs.declared.outcome.Outcome.TheVariants.{Committed, Aborted, AbortedBy, Drained}
+use Rattle.tm_model.specs.declared.outcome.Pick.{Pick}
 use Rattle.tm_outcomes.specs.Places.{is_open}
-use Rattle.tm_outcomes.specs.Schedules.{Situation, after_pick, with_state}
-use Rattle.tm_outcomes.proofs.Runs.{step_changes}
+use Rattle.tm_outcomes.specs.Schedules.{Situation, after_pick, owed_by, with_state}
 use Rattle.tm_outcomes.proofs.Somes.{same_in}
 use Rattle.tm_outcomes.proofs.Stored.{IsCommit, IsSameBut, Made, before_commit, begun, committed, else_of, halted}
 use Rattle.tm_outcomes.proofs.Stored.{keeps}
@@ -96,6 +97,7 @@ closed setting memory regs Inside made e = absurd (cc)
 closed setting memory regs Committed made e = absurd (cc)
 closed setting memory regs (Aborted status) made e = absurd (cc)
 closed setting memory regs (AbortedBy by status) made e = absurd (cc)
+closed setting memory regs Drained made e = absurd (cc)
 
 midway : (setting : Setting) (memory : List ℕ) (regs : Regs) (value : ℕ) (outcome : Outcome) (made : Made) →
     after_step_of setting memory (Midway regs value) outcome ≡ Some made →
@@ -109,6 +111,7 @@ midway setting memory regs value Inside made e = absurd (cc)
 midway setting memory regs value Committed made e = absurd (cc)
 midway setting memory regs value (Aborted status) made e = absurd (cc)
 midway setting memory regs value (AbortedBy by status) made e = absurd (cc)
+midway setting memory regs value Drained made e = absurd (cc)
 
 stopped : (setting : Setting) (memory : List ℕ) (regs : Regs) (stop : Stop) (outcome : Outcome) (made : Made) →
     after_step_of setting memory (Halted regs stop) outcome ≡ Some made →
@@ -122,6 +125,7 @@ stopped setting memory regs stop Inside made e = absurd (cc)
 stopped setting memory regs stop Committed made e = absurd (cc)
 stopped setting memory regs stop (Aborted status) made e = absurd (cc)
 stopped setting memory regs stop (AbortedBy by status) made e = absurd (cc)
+stopped setting memory regs stop Drained made e = absurd (cc)
 
 opened : (setting : Setting) (memory : List ℕ) (regs : Regs) (steps : ℕ) (view : View) (lines : List ℕ) →
     IsBody setting memory regs steps view → set.from_list lines ≡ view.writes → (outcome : Outcome) (made : Made) →
@@ -140,6 +144,7 @@ opened setting memory regs steps view lines body all (Aborted status) made e =
     untouched lines made.0 memory (ap (λ (x : Made). x.0) (sym (same_in e)))
 opened setting memory regs steps view lines body all (AbortedBy by status) made e =
     untouched lines made.0 memory (ap (λ (x : Made). x.0) (sym (same_in e)))
+opened setting memory regs steps view lines body all Drained made e = absurd (cc)
 
 -- ---- what is shown of a core tells which of these it is
 
@@ -190,12 +195,12 @@ not_open mode view goes is opens = absurd (false≢true (sym goes ∙ (ap is_ope
 pub open_noted : (by : Option Event) (setting : Setting) (memory : List ℕ) (core : Core) (doom : Option ℕ) (view : View)
     (lines : List ℕ) →
     view_of setting memory core doom ≡ Some view → is_open view.mode ≡ true → set.from_list lines ≡ view.writes →
-    (made : Made) → after_step_of setting memory core (owed_under by setting memory core doom) ≡ Some made →
+    (made : Made) → after_step_of setting memory core (owed_under by setting memory [] core doom) ≡ Some made →
     IsSameElsewhere lines made.0 memory
 open_noted by setting memory (Opened regs steps) None view lines shown opens all made e =
     opened setting memory regs steps view lines
     (has_body setting memory regs steps view (isolated_body setting regs memory steps) refl shown) all
-    (owed_under by setting memory (Opened regs steps) None) made e
+    (owed_under by setting memory [] (Opened regs steps) None) made e
 open_noted by setting memory (Opened regs steps) (Some depth) view lines shown opens all made e =
     not_open (Condemned depth) view refl (outside_mode (Condemned depth) regs view shown) opens
 open_noted by setting memory (Closed regs) None view lines shown opens all made e =
@@ -212,21 +217,29 @@ open_noted by setting memory (Halted regs stop) (Some depth) view lines shown op
 pub reach_noted : (by : Option Event) (setting : Setting) (memory : List ℕ) (core : Core)
     (doom : Option ℕ) (view : View) →
     view_of setting memory core doom ≡ Some view → is_open view.mode ≡ false →
-    (made : Made) → after_step_of setting memory core (owed_under by setting memory core doom) ≡ Some made →
+    (made : Made) → after_step_of setting memory core (owed_under by setting memory [] core doom) ≡ Some made →
     IsSameBut (addresses_stored_at setting memory core (owed_outcome setting memory core doom)) made.0 memory
 reach_noted None setting memory (Closed regs) doom view shown closes made e =
+    closed setting memory regs (owed_outcome setting memory (Closed regs) doom) made e
+reach_noted (Some event.Drain) setting memory (Closed regs) doom view shown closes made e =
     closed setting memory regs (owed_outcome setting memory (Closed regs) doom) made e
 reach_noted (Some (event.Abort by)) setting memory (Closed regs) doom view shown closes made e =
     closed setting memory regs (owed_outcome setting memory (Closed regs) doom) made e
 reach_noted None setting memory (Midway regs value) doom view shown closes made e =
     midway setting memory regs value (owed_outcome setting memory (Midway regs value) doom) made e
+reach_noted (Some event.Drain) setting memory (Midway regs value) doom view shown closes made e =
+    midway setting memory regs value (owed_outcome setting memory (Midway regs value) doom) made e
 reach_noted (Some (event.Abort by)) setting memory (Midway regs value) doom view shown closes made e =
     midway setting memory regs value (owed_outcome setting memory (Midway regs value) doom) made e
 reach_noted None setting memory (Halted regs stop) doom view shown closes made e =
     stopped setting memory regs stop (owed_outcome setting memory (Halted regs stop) doom) made e
+reach_noted (Some event.Drain) setting memory (Halted regs stop) doom view shown closes made e =
+    stopped setting memory regs stop (owed_outcome setting memory (Halted regs stop) doom) made e
 reach_noted (Some (event.Abort by)) setting memory (Halted regs stop) doom view shown closes made e =
     stopped setting memory regs stop (owed_outcome setting memory (Halted regs stop) doom) made e
 reach_noted None setting memory (Opened regs steps) (Some depth) view shown closes made e =
+    keeps [] made.0 memory (ap (λ (x : Made). x.0) (sym (same_in e)))
+reach_noted (Some event.Drain) setting memory (Opened regs steps) (Some depth) view shown closes made e =
     keeps [] made.0 memory (ap (λ (x : Made). x.0) (sym (same_in e)))
 reach_noted (Some (event.Abort by)) setting memory (Opened regs steps) (Some depth) view shown closes made e =
     keeps [] made.0 memory (ap (λ (x : Made). x.0) (sym (same_in e)))
@@ -241,20 +254,26 @@ pub record IsMadeBy (setting : Setting) (now next : Situation) (core : ℕ) (out
   pub memory : next.state.memory ≡ made.0
 
 made_by : (setting : Setting) (now next : Situation) (core : ℕ) (outcome : Outcome) (after : Option State) →
-    step setting now.state core outcome ≡ after → option_map (with_state setting now core outcome) after ≡ Some next →
-    IsMadeBy setting now next core outcome
-made_by setting now next core outcome (Some state) is_step e =
-    let changes = step_changes setting now.state state core outcome is_step in
+    setting.store_buffer ≡ 0 → now.state.pending core ≡ [] → step setting now.state core outcome ≡ after →
+    option_map (with_state setting now core outcome) after ≡ Some next → IsMadeBy setting now next core outcome
+made_by setting now next core outcome (Some state) off left is_step e =
+    let made : PlainStep setting now.state core outcome state =
+    plain_step setting now.state core outcome state off left is_step in
     record {
-      made = changes.made;
-      is_made = changes.is_made;
-      memory = ap (λ (x : Situation). x.state.memory) (sym (same_in e)) ∙ ap (λ (x : State). x.memory) changes.is_next;
+      made = made.change;
+      is_made = made.is;
+      memory = ap (λ (x : Situation). x.state.memory) (sym (same_in e)) ∙ ap (λ (x : State). x.memory) (sym made.gives);
     }
-made_by setting now next core outcome None is_step e = absurd (cc)
+made_by setting now next core outcome None off left is_step e = absurd (cc)
 
+-- where no store of the core is pending
 pub step_made : (setting : Setting) (now next : Situation) (core : ℕ) (by : Option Event) →
+    setting.store_buffer ≡ 0 → now.state.pending core ≡ [] →
     after_pick setting now (record { core = core; event = by }) ≡ Some next →
-    IsMadeBy setting now next core (owed_under by setting now.state.memory (now.state.cores core) (now.doomed core))
-step_made setting now next core by e =
-    let outcome = owed_under by setting now.state.memory (now.state.cores core) (now.doomed core) in
-    made_by setting now next core outcome (step setting now.state core outcome) refl e
+    IsMadeBy setting now next core (owed_under by setting now.state.memory [] (now.state.cores core) (now.doomed core))
+step_made setting now next core by off left e =
+    let pick : Pick = record { core = core; event = by } in
+    let outcome : Outcome = owed_by setting now pick in
+    subst (λ (o : Outcome). IsMadeBy setting now next core o)
+    (owed_is by setting now.state.memory (now.state.pending core) (now.state.cores core) (now.doomed core) left)
+    (made_by setting now next core outcome (step setting now.state core outcome) off left refl e)

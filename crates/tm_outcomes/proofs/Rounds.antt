@@ -1,13 +1,14 @@
 -- Steps that are made from a place on, and that lead round to what is shown as it was.
 use Rattle.std.proofs.Common.{◌≡◌, ℕ, ◌<◌, Bool, true, false, List, [], ◌∷◌, ◌++◌, Some, length, refl, sym, ap, ◌∙◌}
 use Rattle.std.proofs.Common.{subst, arith, append_assoc}
-use Rattle.std.specs.Prelude.{All, Contains, option_and_then}
+use Rattle.std.specs.Prelude.{All, option_and_then}
 use Rattle.std.proofs.lemmas.List.{append-nil}
 use Rattle.std.proofs.lemmas.List.Elements.{All-append, All-cons, All-nil, All-weaker}
 use Rattle.ia_image.specs.Program.{opening_memory}
 use Rattle.tm_core.specs.Reopening.{IsSameElsewhere}
 use Rattle.tm_core.specs.Theorem.{StandsFor, machine_setting, view_at}
 use Rattle.tm_model.specs.Setting.{Setting}
+use Rattle.tm_model.specs.State.{seen_by}
 use Rattle.tm_model.specs.declared.outcome.Pick.{Pick}
 use Rattle.tm_outcomes.specs.Nodes.{IsPickOf, IsUsualPick, schedule_at}
 use Rattle.tm_outcomes.specs.Outcomes.{AreUsual, trial_opening, trial_setting}
@@ -16,7 +17,7 @@ use Rattle.tm_outcomes.specs.Resting.{Advances}
 use Rattle.tm_outcomes.specs.Schedules.{HasEnded, Situation, after_pick, after_schedule}
 use Rattle.tm_outcomes.specs.Searching.{GoesRound, IsMade}
 use Rattle.tm_outcomes.specs.Verdicts.{AreSame, HasStepOf, HasStopped}
-use Rattle.tm_outcomes.specs.Written.{IsPlaceIn, IsWithin, StoresOn}
+use Rattle.tm_outcomes.specs.Written.{IsPlaceIn, IsWithin, KeepsNoted, StoresOn}
 use Rattle.tm_outcomes.specs.declared.place.Place.{Place}
 use Rattle.tm_outcomes.specs.declared.trial.Trial.{Trial}
 use Rattle.tm_outcomes.specs.declared.written.Written.{Written}
@@ -25,6 +26,7 @@ use Rattle.tm_outcomes.proofs.Benches.{place_at, within_advanced, within_more}
 use Rattle.tm_outcomes.proofs.Catching.{split}
 use Rattle.tm_outcomes.proofs.Complete.{IsAllowedIn}
 use Rattle.tm_outcomes.proofs.Leads.{alike_stands, shows}
+use Rattle.tm_outcomes.proofs.Noting.{keeps_all, keeps_more}
 use Rattle.tm_outcomes.proofs.Somes.{same_in}
 use Rattle.tm_outcomes.proofs.Sparing.{IsUsualIn}
 
@@ -41,23 +43,21 @@ within_at trial written place schedule is at = λ now is_run.
 
 -- a pick whose stores were noted, and the steps behind it
 pub made_once : (trial : Trial) (before after : Place) (old new : Written) (pick : Pick) (steps schedule : List Pick) →
-    IsUsualPick trial pick → IsPlaceIn trial old before → IsAt trial before schedule → new.opening ≡ old.opening →
-    ((line : ℕ) → Contains old.lines.items line → Contains new.lines.items line) →
+    IsUsualPick trial pick → IsPlaceIn trial old before → IsAt trial before schedule → KeepsNoted old new →
     ((now : Situation) → StandsFor before.machine now.state now.doomed →
     StoresOn (machine_setting before.machine) new.lines.items now pick.core) →
     Advances trial before after pick steps → IsMade trial before after old new steps
-made_once trial before after old new pick steps schedule usual is at opening kept noted advances = record {
+made_once trial before after old new pick steps schedule usual is at keeps noted advances = record {
   are_picks = advances.are_picks;
   usual = subst (λ (s : List Pick). AreUsual trial s) (sym advances.made)
       (All-cons (IsUsualIn trial) pick advances.rest usual.usual advances.usual);
   at = advances.at;
-  place = place_at trial new after (schedule ++ steps) (ap (λ v. v.items) opening ∙ is.opening) advances.is_place
+  place = place_at trial new after (schedule ++ steps) (ap (λ v. v.items) keeps.opening ∙ is.opening) advances.is_place
       (advances.at schedule at)
       (within_advanced trial new.lines.items schedule before after pick steps at advances
-      (within_more trial old.lines.items new.lines.items schedule kept (within_at trial old before schedule is at))
-      noted);
-  opening = opening;
-  kept = kept;
+      (within_more trial old.lines.items new.lines.items schedule keeps.kept
+      (within_at trial old before schedule is at)) noted);
+  keeps = keeps;
 }
 
 pub made_none : (trial : Trial) (place : Place) (written : Written) → IsPlaceIn trial written place →
@@ -67,8 +67,7 @@ made_none trial place written is = record {
   usual = All-nil (IsUsualIn trial);
   at = λ schedule at. subst (λ (s : List Pick). IsAt trial place s) (sym (append-nil schedule)) at;
   place = is;
-  opening = refl;
-  kept = λ line is_there. is_there;
+  keeps = keeps_all written;
 }
 
 pub made_then : (trial : Trial) (a b c : Place) (x y z : Written) (first more all : List Pick) → all ≡ first ++ more →
@@ -83,8 +82,7 @@ made_then trial a b c x y z first more all made one other = record {
       (append_assoc schedule first more ∙ ap (λ (s : List Pick). schedule ++ s) (sym made))
       (other.at (schedule ++ first) (one.at schedule at));
   place = other.place;
-  opening = other.opening ∙ one.opening;
-  kept = λ line is_there. other.kept line (one.kept line is_there);
+  keeps = keeps_more x y z one.keeps other.keeps;
 }
 
 -- ---- steps that lead round
@@ -113,6 +111,9 @@ both_same trial place schedule now back at one other =
           let here : core < length place.machine.views = (let e = one.same_count in omega arith) in
           shows place.machine setting now at.rules one core here
           ∙ sym (shows place.machine setting back at.rules other core here);
+      pending = λ core below.
+          let here : core < length place.machine.views = (let e = one.same_count in omega arith) in
+          sym (one.same_pending core here) ∙ other.same_pending core here;
     }
 
 -- what a place shows of each core that has not stopped
@@ -125,8 +126,8 @@ fair_by : (stopped : Bool) (core : ℕ) (steps : List Pick) (place : Place) (now
     StandsFor place.machine now.state now.doomed → IsFair place steps → core < length place.machine.views →
     has_stopped (view_at place.machine core).mode ≡ stopped → ¬ HasStopped (now.state.cores core) → HasStepOf core steps
 fair_by true core steps place now stands fair below is goes =
-    let halted = halted_is (machine_setting place.machine) now.state.memory (now.state.cores core) (now.doomed core)
-    (view_at place.machine core) (stands.each core below) is in
+    let halted = halted_is (machine_setting place.machine) (seen_by now.state core) (now.state.cores core)
+    (now.doomed core) (view_at place.machine core) (stands.each core below) is in
     absurd (goes (halted.1.0, (halted.0, halted.1.1)))
 fair_by false core steps place now stands fair below is goes = fair core below is
 

@@ -1,12 +1,11 @@
 -- Schedules that grow by one step.
-use Rattle.std.proofs.Common.{◌≡◌, ℕ, Bool, true, false, cond, List, [], ◌∷◌, ◌++◌, Option, Some, None, refl, sym, ap}
-use Rattle.std.proofs.Common.{subst}
-use Rattle.std.specs.Prelude.{nat_lt, option_map, option_and_then}
+use Rattle.std.proofs.Common.{◌≡◌, List, [], ◌∷◌, ◌++◌, Option, Some, None, sym, ap, subst}
+use Rattle.std.specs.Prelude.{option_map, option_and_then}
 use Rattle.tm_outcomes.proofs.Somes.{same_in}
 use Rattle.tm_model.specs.Runs.{IsOwedUnder}
 use Rattle.tm_model.specs.Setting.{Setting}
-use Rattle.tm_model.specs.State.{Core, State}
-use Rattle.tm_model.specs.Steps.{Change, after_step_of, state_with, step}
+use Rattle.tm_model.specs.State.{State}
+use Rattle.tm_model.specs.Steps.{step}
 use Rattle.tm_model.specs.declared.outcome.Outcome.{Outcome}
 use Rattle.tm_model.specs.declared.outcome.Pick.{Pick}
 use Rattle.tm_outcomes.specs.Schedules.{Situation, after_pick, after_schedule, with_state}
@@ -50,22 +49,3 @@ run_then setting start (first ∷ picks) more now end e run =
     under (after_pick setting start first) (λ after. after_schedule setting after picks)
     (λ after. after_schedule setting after (picks ++ more)) now end
     (λ middle is_run. run_then setting middle picks more now end is_run run) e
-
--- what a step changes
-pub record Changes (state next : State) (number : ℕ) (change : Change) : Type 0 where
-  pub made : List ℕ × Core
-  pub is_made : change ≡ Some made
-  pub is_next : next ≡ state_with state number made
-
-changed : (state next : State) (number : ℕ) (there : Bool) (change : Change) →
-    cond there (option_map (state_with state number) change) None ≡ Some next → Changes state next number change
-changed state next number true (Some made) e = record { made = made; is_made = refl; is_next = sym (same_in e) }
-changed state next number true None e = absurd (cc)
-changed state next number false change e = absurd (cc)
-
-pub step_changes : (setting : Setting) (state next : State) (number : ℕ) (outcome : Outcome)
-    → step setting state number outcome ≡ Some next →
-    Changes state next number (after_step_of setting state.memory (state.cores number) outcome)
-step_changes setting state next number outcome e =
-    changed state next number (nat_lt number state.count)
-    (after_step_of setting state.memory (state.cores number) outcome) e

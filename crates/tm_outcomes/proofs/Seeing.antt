@@ -12,6 +12,7 @@ use Rattle.tm_condition.specs.declared.clause.Clause.TheVariants.{Compare, Bytes
 use Rattle.tm_condition.specs.declared.item.Item.{Item}
 use Rattle.tm_condition.specs.declared.item.Item.TheVariants.{Register, Memory, Number}
 use Rattle.tm_core.specs.Theorem.{ShownMachine, StandsFor, machine_setting, view_at}
+use Rattle.tm_model.specs.State.{seen_by}
 use Rattle.tm_outcomes.specs.Outcomes.{regs_of}
 use Rattle.tm_outcomes.specs.Schedules.{Situation}
 use Rattle.tm_outcomes.specs.Verdicts.{seen_at}
@@ -29,7 +30,8 @@ module _ (machine : ShownMachine) (now : Situation) (stands : StandsFor machine 
   same_base : (core : ℕ) → nat_lt core (length machine.views) ≡ true
       → (view_at machine core).base ≡ regs_of (now.state.cores core)
   same_base core is =
-      base_is (machine_setting machine) now.state.memory (now.state.cores core) (now.doomed core) (view_at machine core)
+      base_is (machine_setting machine) (seen_by now.state core) (now.state.cores core) (now.doomed core)
+      (view_at machine core)
       (stands.each core (ltb-true core (length machine.views) is))
 
   same_value : (item : Item) → value_of (seen_of machine) item ≡ value_of (seen_at now.state) item

@@ -1,5 +1,5 @@
 -- What is shown of a core tells what the core is.
-use Rattle.std.proofs.Common.{◌≡◌, ℕ, Bool, true, false, cond, List, Option, Some, None, refl, sym, ap, ◌∙◌, subst}
+use Rattle.std.proofs.Common.{◌≡◌, ℕ, Bool, true, false, cond, List, [], Option, Some, None, refl, sym, ap, ◌∙◌, subst}
 use Rattle.std.specs.Prelude.{option_and_then, nat_eq}
 use Rattle.tm_outcomes.proofs.Somes.{same_in}
 use Rattle.ia_regs.specs.declared.Regs.{Regs}
@@ -139,10 +139,12 @@ by_stop setting memory (Opened regs steps) doom view why e halted =
 
 -- ---- cores that no event aborts
 
--- what a core owes under an event is what it owes under none, where it is in no transaction or is doomed
+-- what a core owes under an event is what it owes under none, where it is in no transaction or is doomed, and there is
+-- nothing to drain
 pub same_under : (by : Event) (setting : Setting) (memory : List ℕ) (core : Core) (doom : Option ℕ) (view : View) →
     view_of setting memory core doom ≡ Some view → is_open view.mode ≡ false →
-    owed_under (Some by) setting memory core doom ≡ owed_under None setting memory core doom
+    owed_under (Some by) setting memory [] core doom ≡ owed_under None setting memory [] core doom
+same_under event.Drain setting memory core doom view e closed = refl
 same_under (event.Abort by) setting memory (Opened regs steps) None view e closed =
     let known = base_inside regs (isolated_body setting regs memory steps) view e in
     absurd (false≢true (sym closed ∙ ap is_open known.1.1))

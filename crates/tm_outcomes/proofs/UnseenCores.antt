@@ -25,14 +25,14 @@ use Rattle.tm_model.specs.declared.outcome.Event.{Event}
 use Rattle.tm_model.specs.declared.outcome.Event.TheVariants as event
 use Rattle.tm_model.specs.declared.outcome.Outcome.{Outcome}
 use Rattle.tm_model.specs.declared.outcome.Outcome.TheVariants.{Plain, Loaded, Stopped, Idle, Begun, Inside}
-use Rattle.tm_model.specs.declared.outcome.Outcome.TheVariants.{Committed, Aborted, AbortedBy}
+use Rattle.tm_model.specs.declared.outcome.Outcome.TheVariants.{Committed, Aborted, AbortedBy, Drained}
 use Rattle.tm_outcomes.specs.Unseen.{are_none, is_unseen}
 
--- what such a step is, whatever memory is
+-- what such a step is, whatever memory is, where no store of its core is pending
 pub record IsUnseenStep (setting : Setting) (core : Core) (doom : Option ℕ) : Type 0 where
   pub outcome : Outcome
   pub next : Core
-  pub is_owed : (by : Option Event) (memory : List ℕ) → owed_under by setting memory core doom ≡ outcome
+  pub is_owed : (by : Option Event) (memory : List ℕ) → owed_under by setting memory [] core doom ≡ outcome
   pub is_made : (memory : List ℕ) → after_step_of setting memory core outcome ≡ Some (memory, next)
   pub loads : (memory : List ℕ) → addresses_loaded_by setting memory core outcome ≡ []
   pub stores : (memory : List ℕ) → addresses_stored_by setting memory core outcome ≡ []
@@ -82,8 +82,9 @@ module _ (setting : Setting) (regs : Regs) (loads_none : setting.load_of regs �
   outside_is memory = ap (λ v. setting.outside regs v) (value_is memory)
 
   owed_closed : (by : Option Event) (memory : List ℕ)
-      → owed_under by setting memory (Closed regs) None ≡ owed_outside (setting.takes_two_steps regs) at_none
+      → owed_under by setting memory [] (Closed regs) None ≡ owed_outside (setting.takes_two_steps regs) at_none
   owed_closed None memory = ap (owed_outside (setting.takes_two_steps regs)) (outside_is memory)
+  owed_closed (Some event.Drain) memory = ap (owed_outside (setting.takes_two_steps regs)) (outside_is memory)
   owed_closed (Some (event.Abort by)) memory = ap (owed_outside (setting.takes_two_steps regs)) (outside_is memory)
 
   -- the instruction stops
@@ -180,6 +181,7 @@ module _ (setting : Setting) (regs : Regs) (loads_none : setting.load_of regs �
   stored_is Committed memory other = refl
   stored_is (Aborted status) memory other = refl
   stored_is (AbortedBy by status) memory other = refl
+  stored_is Drained memory other = refl
 
   closed : (memory : List ℕ)
       → are_none (addresses_stored_at setting memory (Closed regs) (owed_outcome setting memory (Closed regs) None))
@@ -216,9 +218,10 @@ doomed setting regs steps depth =
     }
   where
     under : (by : Option Event) (memory : List ℕ)
-        → owed_under by setting memory (Opened regs steps) (Some depth)
+        → owed_under by setting memory [] (Opened regs steps) (Some depth)
         ≡ owed_outcome setting [] (Opened regs steps) (Some depth)
     under None memory = refl
+    under (Some event.Drain) memory = refl
     under (Some (event.Abort by)) memory = refl
 
 pub unseen_step : (setting : Setting) (memory : List ℕ) (core : Core) (doom : Option ℕ)

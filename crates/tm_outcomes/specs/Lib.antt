@@ -11,3 +11,4 @@ pub mod Searching
 pub mod Written
 pub mod Digests
 pub mod Kept
+pub mod Following

@@ -1,5 +1,5 @@
 -- The states that a search has met, each as the last step of a schedule that leads there, and the node of the rest.
-use Rattle.std.specs.Prelude.{◌≡◌, ◌⊎◌, ℕ, ◌<◌, List, [], ◌∷◌, ◌++◌, All, Contains, Some, None, length, map}
+use Rattle.std.specs.Prelude.{◌≡◌, ◌⊎◌, ℕ, ◌^◌, ◌<◌, List, [], ◌∷◌, ◌++◌, All, Contains, Some, None, length, map}
 use Rattle.std.specs.Prelude.{slice_get, slice_index_or}
 use Rattle.tm_condition.specs.Conditions.{Violates}
 use Rattle.tm_condition.specs.declared.check.Check.{Check}
@@ -16,6 +16,7 @@ use Rattle.tm_outcomes.specs.Verdicts.{AreSame, IsStopTold, IsViolationTold, Sto
 use Rattle.tm_outcomes.specs.declared.findings.Findings.{Findings}
 use Rattle.tm_outcomes.specs.declared.links.Link.{Link}
 use Rattle.tm_outcomes.specs.declared.nodes.Node.{Node}
+use Rattle.tm_outcomes.specs.declared.nodes.NodeState.{NodeState}
 use Rattle.tm_outcomes.specs.declared.place.Place.{Place}
 use Rattle.tm_outcomes.specs.declared.trial.Trial.{Trial}
 
@@ -69,6 +70,22 @@ pub record IsTree (trial : Trial) (nodes : List Node) (schedules : List (List Pi
 
 abbrev pub HaveSchedules : Trial → List Node → Type 0
 HaveSchedules trial nodes = (schedules : List (List Pick)) × IsTree trial nodes schedules
+
+-- nodes with their schedules, no more than 32 bits number
+pub record AreNodesOf (trial : Trial) (nodes : List Node) : Type 0 where
+  pub few : length nodes < 2 ^ 32
+  pub tree : HaveSchedules trial nodes
+
+-- a machine at the end of this node's schedule
+abbrev pub StandsAtNode : Trial → List Node → Place → ℕ → Type 0
+StandsAtNode trial nodes place index =
+    (schedules : List (List Pick)) → IsTree trial nodes schedules → IsAt trial place (schedule_at schedules index)
+
+-- there is this node, and the machine stands there
+pub record IsNodeState (trial : Trial) (at : NodeState) : Type 0 where
+  pub within : at.index < length at.nodes.now
+  pub tree : HaveSchedules trial at.nodes.now
+  pub here : StandsAtNode trial at.nodes.now at.place.now at.index
 
 -- the steps of the nodes on a way, of which the last one comes first
 unfoldable pub steps_along : List Node → List ℕ → List Pick

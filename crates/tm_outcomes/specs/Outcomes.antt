@@ -61,7 +61,7 @@ abbrev pub AreAllowed : Trial → List Pick → Type 0
 AreAllowed trial schedule = All (λ pick. IsAllowed trial.events pick.event) schedule
 
 abbrev pub trial_setting : Trial → Setting
-trial_setting trial = program_setting trial.program.now trial.limits.read_lines trial.limits.write_lines
+trial_setting trial = program_setting trial.program.now trial.limits.read_lines trial.limits.write_lines 0
 
 abbrev pub trial_opening : Trial → Situation
 trial_opening trial = opening trial.program.now

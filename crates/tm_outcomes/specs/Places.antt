@@ -1,6 +1,6 @@
 -- A machine at the end of a schedule, and when two of them stand for the same states.
 use Rattle.std.specs.Prelude.{◌≡◌, ℕ, Bool, true, false, ◌<◌, List, ◌++◌, Some, None, length, replicate}
-use Rattle.tm_core.specs.Theorem.{StandsFor, machine_setting, view_at}
+use Rattle.tm_core.specs.Theorem.{StandsFor, machine_setting, pending_at, view_at}
 use Rattle.tm_model.specs.Setting.{Setting}
 use Rattle.tm_model.specs.declared.outcome.Pick.{Pick}
 use Rattle.tm_model.specs.declared.outcome.CoreState.{CoreState}
@@ -49,11 +49,12 @@ is_open Mid = false
 is_open (Condemned depth) = false
 is_open (AtStop stop) = false
 
--- memory is the same, and what is shown of each core
+-- memory is the same, and what is shown of each core, with its stores that are pending
 pub record AreAlike (a b : Place) : Type 0 where
   pub memory : a.machine.memory ≡ b.machine.memory
   pub count : length a.machine.views ≡ length b.machine.views
   pub each : (core : ℕ) → core < length a.machine.views → view_at a.machine core ≡ view_at b.machine core
+  pub pending : (core : ℕ) → core < length a.machine.views → pending_at a.machine core ≡ pending_at b.machine core
 
 -- after this pick, the machine stands for what follows
 pub record StandsAfter (setting : Setting) (after : Place) (pick : Pick) (now : Situation) : Type 0 where

@@ -23,7 +23,8 @@ opening program = record { state = opening_state program; doomed = λ _. None }
 -- the outcome that a pick owes
 abbrev pub owed_by : Setting → Situation → Pick → Outcome
 owed_by setting now pick =
-    owed_under pick.event setting now.state.memory (now.state.cores pick.core) (now.doomed pick.core)
+    owed_under pick.event setting now.state.memory (now.state.pending pick.core) (now.state.cores pick.core)
+    (now.doomed pick.core)
 
 abbrev pub with_state : Setting → Situation → ℕ → Outcome → State → Situation
 with_state setting now core outcome state =

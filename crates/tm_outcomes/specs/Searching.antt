@@ -12,7 +12,7 @@ use Rattle.tm_outcomes.specs.Outcomes.{AreDistinct, AreUsual, IsAllowed, IsTold,
 use Rattle.tm_outcomes.specs.Places.{IsAt}
 use Rattle.tm_outcomes.specs.Schedules.{HasEnded, Situation, after_schedule}
 use Rattle.tm_outcomes.specs.Verdicts.{IsStop, IsViolation, LeadsBack}
-use Rattle.tm_outcomes.specs.Written.{IsPlaceIn}
+use Rattle.tm_outcomes.specs.Written.{IsPlaceIn, KeepsNoted}
 use Rattle.tm_outcomes.specs.declared.cycle.Cycle.{Cycle}
 use Rattle.tm_outcomes.specs.declared.findings.Findings.{Findings}
 use Rattle.tm_outcomes.specs.declared.links.Link.{Link}
@@ -130,8 +130,7 @@ pub record IsMade (trial : Trial) (before after : Place) (old new : Written) (st
   pub usual : AreUsual trial steps
   pub at : (schedule : List Pick) → IsAt trial before schedule → IsAt trial after (schedule ++ steps)
   pub place : IsPlaceIn trial new after
-  pub opening : new.opening ≡ old.opening
-  pub kept : (line : ℕ) → Contains old.lines.items line → Contains new.lines.items line
+  pub keeps : KeepsNoted old new
 
 -- where a node leads to some core has not stopped, and from there these steps lead back
 pub record GoesRound (trial : Trial) (schedules : List (List Pick)) (index : ℕ) (steps : List Pick) : Type 0 where

@@ -4,7 +4,7 @@ use Rattle.ia_regs.specs.declared.Regs.{Regs}
 use Rattle.tm_model.specs.Explained.{addresses_stored_at}
 use Rattle.tm_model.specs.Owed.{owed_outcome}
 use Rattle.tm_model.specs.Setting.{Setting}
-use Rattle.tm_model.specs.State.{Closed, Core, Opened}
+use Rattle.tm_model.specs.State.{Closed, Core, Opened, seen_by}
 use Rattle.tm_model.specs.declared.outcome.Event.{Event}
 use Rattle.tm_model.specs.declared.outcome.Pick.{Pick}
 use Rattle.tm_outcomes.specs.Schedules.{Situation, after_pick}
@@ -28,7 +28,7 @@ is_unseen setting memory (Opened regs steps) (Some depth) = true
 is_unseen setting memory core doom = false
 
 abbrev pub IsUnseen : Setting → Situation → ℕ → Type 0
-IsUnseen setting now core = is_unseen setting now.state.memory (now.state.cores core) (now.doomed core) ≡ true
+IsUnseen setting now core = is_unseen setting (seen_by now.state core) (now.state.cores core) (now.doomed core) ≡ true
 
 -- from one situation these steps, each of them unseen and under an event that is allowed, lead to another
 abbrev pub LeadUnseen : Setting → (Option Event → Type 0) → Situation → List Pick → Situation → Type 0

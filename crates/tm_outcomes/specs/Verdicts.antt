@@ -7,7 +7,7 @@ use Rattle.ia_regs.specs.declared.Regs.{Regs}
 use Rattle.tm_condition.specs.Conditions.{Seen, Violates}
 use Rattle.tm_condition.specs.declared.check.Check.{Check}
 use Rattle.tm_model.specs.Shown.{view_of}
-use Rattle.tm_model.specs.State.{Core, Halted, State}
+use Rattle.tm_model.specs.State.{Core, Halted, State, seen_by}
 use Rattle.tm_model.specs.declared.outcome.Pick.{Pick}
 use Rattle.tm_rule.specs.declared.kinds.Stop.{Stop}
 use Rattle.tm_outcomes.specs.Marks.{unmarked}
@@ -48,13 +48,14 @@ IsStuck trial schedule =
 
 -- ---- fair cycles
 
--- what is shown of memory and of each core is the same
+-- what is shown of memory and of each core is the same, with its stores that are pending
 pub record AreSame (trial : Trial) (a b : Situation) : Type 0 where
   pub memory : a.state.memory ≡ b.state.memory
   pub count : a.state.count ≡ b.state.count
   pub each : (core : ℕ) → core < a.state.count →
-      view_of (trial_setting trial) a.state.memory (a.state.cores core) (a.doomed core)
-      ≡ view_of (trial_setting trial) b.state.memory (b.state.cores core) (b.doomed core)
+      view_of (trial_setting trial) (seen_by a.state core) (a.state.cores core) (a.doomed core)
+      ≡ view_of (trial_setting trial) (seen_by b.state core) (b.state.cores core) (b.doomed core)
+  pub pending : (core : ℕ) → core < a.state.count → a.state.pending core ≡ b.state.pending core
 
 -- one of these steps is the core's
 abbrev pub HasStepOf : ℕ → List Pick → Type 0

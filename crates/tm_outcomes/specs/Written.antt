@@ -5,9 +5,9 @@ use Rattle.tm_core.specs.Reopening.{IsSameElsewhere}
 use Rattle.tm_model.specs.Setting.{Setting}
 use Rattle.tm_model.specs.declared.outcome.Event.{Event}
 use Rattle.tm_model.specs.declared.outcome.Pick.{Pick}
-use Rattle.tm_outcomes.specs.Nodes.{IsTree, schedule_at}
+use Rattle.tm_outcomes.specs.Nodes.{IsTree, StandsAtNode, schedule_at}
 use Rattle.tm_outcomes.specs.Outcomes.{trial_opening, trial_setting}
-use Rattle.tm_outcomes.specs.Places.{IsAt, IsPlaceOf}
+use Rattle.tm_outcomes.specs.Places.{IsPlaceOf}
 use Rattle.tm_outcomes.specs.Schedules.{Situation, after_pick, after_schedule}
 use Rattle.tm_outcomes.specs.declared.bench.Bench.{Bench}
 use Rattle.tm_outcomes.specs.declared.nodes.Node.{Node}
@@ -34,6 +34,11 @@ pub record HasMore (before after : List ℕ) : Type 0 where
   pub grown : after ≡ before ++ more
   pub fresh : (line : ℕ) → Contains more line → ¬ Contains before line
 
+-- memory before the first step stays what it was, and no line is lost
+pub record KeepsNoted (before after : Written) : Type 0 where
+  pub opening : after.opening ≡ before.opening
+  pub kept : (line : ℕ) → Contains before.lines.items line → Contains after.lines.items line
+
 -- memory before the first step, and lines that the schedule of each node stays within
 pub record IsWrittenOf (trial : Trial) (nodes : List Node) (written : Written) : Type 0 where
   pub opening : written.opening.items ≡ opening_memory trial.program.now
@@ -50,9 +55,7 @@ pub record IsPlaceIn (trial : Trial) (written : Written) (here : Place) : Type 0
 -- a machine at the end of this node's schedule, where one is told
 abbrev pub IsAtNode : Trial → List Node → Place → Option ℕ → Type 0
 IsAtNode trial nodes place None = ⊤
-IsAtNode trial nodes place (Some index) =
-    (index < length nodes)
-    × ((schedules : List (List Pick)) → IsTree trial nodes schedules → IsAt trial place (schedule_at schedules index))
+IsAtNode trial nodes place (Some index) = (index < length nodes) × StandsAtNode trial nodes place index
 
 -- the machines of a bench are such, for these nodes
 pub record IsBenchOf (trial : Trial) (nodes : List Node) (bench : Bench) : Type 0 where

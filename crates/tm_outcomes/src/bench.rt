@@ -4,18 +4,18 @@
 //! [`Bench::set_out`] copies it to `here`, which makes one of them. [`Bench::find`] then brings `other` to each
 //! node of the same digest, until one is alike. The list of lines that may differ belongs to all three.
 
-ghost use Rattle.std.specs.Prelude.{◌≡◌, ◌<◌, ◌^◌, [], ℕ, IfErr, IfOk, IfSome, IsTrue, List, None, OnOk, false, length};
-ghost use Rattle.tm_model.specs.declared.outcome.Pick.{Pick};
+ghost use Rattle.std.specs.Prelude.{◌≡◌, ◌<◌, ℕ, IfErr, IfOk, IfSome, IsTrue, None, OnOk, false, length};
 ghost use Rattle.tm_outcomes.specs.Digests.{digest_by};
+ghost use Rattle.tm_outcomes.specs.Following.{IsNewBench};
 ghost use Rattle.tm_outcomes.specs.Kept.{AreApart, IsNewest, IsOther};
-ghost use Rattle.tm_outcomes.specs.Nodes.{HaveSchedules, IsFound, IsTree, schedule_at};
+ghost use Rattle.tm_outcomes.specs.Nodes.{AreNodesOf, IsFound, StandsAtNode};
 ghost use Rattle.tm_outcomes.specs.Outcomes.{IsRefusal};
-ghost use Rattle.tm_outcomes.specs.Places.{IsAt};
-ghost use Rattle.tm_outcomes.specs.Written.{IsBenchOf, IsPlaceIn};
+ghost use Rattle.tm_outcomes.specs.Written.{IsBenchOf};
 
 use crate::fault::SearchFault;
 use crate::nodes::{Node, place_of};
 use crate::place::Place;
+use crate::task::Task;
 use crate::trial::Trial;
 use crate::written::Written;
 use std::alloc::Global;
@@ -38,10 +38,7 @@ pub struct Bench {
 impl Bench {
     /// Three places of a trial before its first step.
     pub fn new(alloc: Global, trial: &Trial<'_>) -> Result<Bench, SearchFault>
-        ensures ok { IfOk result (λ bench. IsPlaceIn trial.now bench.noted bench.start
-            × IsPlaceIn trial.now bench.noted bench.here × IsPlaceIn trial.now bench.noted bench.other) }
-        ensures at { IfOk result (λ bench. bench.at ≡ None) }
-        ensures begins { IfOk result (λ bench. IsAt trial.now bench.here []) }
+        ensures ok { IfOk result (IsNewBench trial.now) }
         ensures err { IfErr result (IsRefusal trial.now) }
     {
         let start = Place::opening(alloc, trial)?;
@@ -60,25 +57,22 @@ impl Bench {
     /// Brings the state of a node to this one, where it is not there.
     pub fn come_to(
         &mut self,
-        alloc: Global,
-        trial: &Trial<'_>,
+        task: &Task<'_>,
         nodes: &[Node],
         index: usize,
     ) -> Result<(), SearchFault>
-        requires bench { IsBenchOf trial.now nodes.now self.old }
+        requires bench { IsBenchOf task.now.trial nodes.now self.old }
         requires within { index < length nodes.now }
-        requires few { length nodes.now < 2 ^ 32 }
-        requires tree { HaveSchedules trial.now nodes.now }
-        ensures bench { OnOk result (IsBenchOf trial.now nodes.now self.new) }
-        ensures start { OnOk result ((schedules : List (List Pick)) → IsTree trial.now nodes.now schedules →
-            IsAt trial.now self.new.start (schedule_at schedules index)) }
+        requires nodes { AreNodesOf task.now.trial nodes.now }
+        ensures bench { OnOk result (IsBenchOf task.now.trial nodes.now self.new) }
+        ensures start { OnOk result (StandsAtNode task.now.trial nodes.now self.new.start index) }
         ensures noted { self.new.noted ≡ self.old.noted }
-        ensures err { IfErr result (IsRefusal trial.now) }
+        ensures err { IfErr result (IsRefusal task.now.trial) }
     {
         if self.at == Some(index) {
             return Ok(());
         }
-        place_of(alloc, trial, nodes, index, &self.noted, &mut self.start)?;
+        place_of(task, nodes, index, &self.noted, &mut self.start)?;
         self.at = Some(index);
         Ok(())
     }
@@ -87,27 +81,23 @@ impl Bench {
     /// what a run of the node's schedule does.
     pub fn set_out(
         &mut self,
-        alloc: Global,
-        trial: &Trial<'_>,
+        task: &Task<'_>,
         nodes: &[Node],
         index: usize,
     ) -> Result<(), SearchFault>
-        requires bench { IsBenchOf trial.now nodes.now self.old }
-        requires start { (schedules : List (List Pick)) → IsTree trial.now nodes.now schedules →
-            IsAt trial.now self.old.start (schedule_at schedules index) }
+        requires bench { IsBenchOf task.now.trial nodes.now self.old }
+        requires start { StandsAtNode task.now.trial nodes.now self.old.start index }
         requires within { index < length nodes.now }
-        requires few { length nodes.now < 2 ^ 32 }
-        requires tree { HaveSchedules trial.now nodes.now }
-        ensures bench { OnOk result (IsBenchOf trial.now nodes.now self.new) }
-        ensures here { OnOk result ((schedules : List (List Pick)) → IsTree trial.now nodes.now schedules →
-            IsAt trial.now self.new.here (schedule_at schedules index)) }
+        requires nodes { AreNodesOf task.now.trial nodes.now }
+        ensures bench { OnOk result (IsBenchOf task.now.trial nodes.now self.new) }
+        ensures here { OnOk result (StandsAtNode task.now.trial nodes.now self.new.here index) }
         ensures noted { self.new.noted ≡ self.old.noted }
-        ensures err { IfErr result (IsRefusal trial.now) }
+        ensures err { IfErr result (IsRefusal task.now.trial) }
     {
         if self.here.copy(&self.start, &self.noted) {
             return Ok(());
         }
-        place_of(alloc, trial, nodes, index, &self.noted, &mut self.here)?;
+        place_of(task, nodes, index, &self.noted, &mut self.here)?;
         Ok(())
     }
 }
@@ -116,26 +106,25 @@ impl Bench {
     // Whether a node goes on as the state does that went on.
     fn is_there(
         &mut self,
-        alloc: Global,
-        trial: &Trial<'_>,
+        task: &Task<'_>,
         nodes: &[Node],
         index: usize,
     ) -> Result<bool, SearchFault>
-        requires bench { IsBenchOf trial.now nodes.now self.old }
+        requires bench { IsBenchOf task.now.trial nodes.now self.old }
         requires within { index < length nodes.now }
-        requires few { length nodes.now < 2 ^ 32 }
-        requires tree { HaveSchedules trial.now nodes.now }
-        ensures bench { IsBenchOf trial.now nodes.now self.new }
+        requires nodes { AreNodesOf task.now.trial nodes.now }
+        ensures bench { IsBenchOf task.now.trial nodes.now self.new }
         ensures here { self.new.here ≡ self.old.here }
         ensures noted { self.new.noted ≡ self.old.noted }
-        ensures ok { IfOk result (λ is_there. IsTrue is_there → IsFound trial.now nodes.now self.old.here index) }
-        ensures other { IfOk result (λ is_there. is_there ≡ false → IsOther trial.now nodes.now self.old.here index) }
-        ensures err { IfErr result (IsRefusal trial.now) }
+        ensures ok { IfOk result (λ is_there. IsTrue is_there → IsFound task.now.trial nodes.now self.old.here index) }
+        ensures other { IfOk result (λ is_there. is_there ≡ false →
+            IsOther task.now.trial nodes.now self.old.here index) }
+        ensures err { IfErr result (IsRefusal task.now.trial) }
     {
         if self.at == Some(index) {
             return Ok(self.here.is_alike(&self.start, &self.noted));
         }
-        place_of(alloc, trial, nodes, index, &self.noted, &mut self.other)?;
+        place_of(task, nodes, index, &self.noted, &mut self.other)?;
         Ok(self.here.is_alike(&self.other, &self.noted))
     }
 
@@ -143,28 +132,26 @@ impl Bench {
     /// digest, which are reached from the newest of them.
     pub fn find(
         &mut self,
-        alloc: Global,
-        trial: &Trial<'_>,
+        task: &Task<'_>,
         nodes: &[Node],
         newest: Option<u32>,
     ) -> Result<Option<usize>, SearchFault>
-        requires bench { IsBenchOf trial.now nodes.now self.old }
-        requires few { length nodes.now < 2 ^ 32 }
-        requires tree { HaveSchedules trial.now nodes.now }
-        requires apart { AreApart trial.now nodes.now self.old.noted }
+        requires bench { IsBenchOf task.now.trial nodes.now self.old }
+        requires nodes { AreNodesOf task.now.trial nodes.now }
+        requires apart { AreApart task.now.trial nodes.now self.old.noted }
         requires newest { IsNewest nodes.now (digest_by self.old.noted self.old.here) (length nodes.now) newest }
-        ensures bench { IsBenchOf trial.now nodes.now self.new }
+        ensures bench { IsBenchOf task.now.trial nodes.now self.new }
         ensures here { self.new.here ≡ self.old.here }
         ensures noted { self.new.noted ≡ self.old.noted }
-        ensures ok { IfOk result (λ found. IfSome found (IsFound trial.now nodes.now self.old.here)) }
+        ensures ok { IfOk result (λ found. IfSome found (IsFound task.now.trial nodes.now self.old.here)) }
         ensures none { IfOk result (λ found. found ≡ None → (index : ℕ) → index < length nodes.now →
-            IsOther trial.now nodes.now self.old.here index) }
-        ensures err { IfErr result (IsRefusal trial.now) }
+            IsOther task.now.trial nodes.now self.old.here index) }
+        ensures err { IfErr result (IsRefusal task.now.trial) }
     {
         let mut candidate = newest;
         'nodes: while let Some(index) = candidate {
             let index = index as usize;
-            if self.is_there(alloc, trial, nodes, index)? {
+            if self.is_there(task, nodes, index)? {
                 return Ok(Some(index));
             }
             candidate = nodes[index].older;

@@ -235,10 +235,11 @@ fn note_links_of(graph: &Graph<'_>, numbers: &[u32], state: u32, has_link: &mut 
     }
 }
 
-fn note(has_link: &mut Vec<bool>, core: u8) {
+/// Notes a core in a row that has one place for each.
+pub fn note(row: &mut Vec<bool>, core: u8) {
     let index = usize::from(core);
-    if index < has_link.len() {
-        has_link[index] = true;
+    if index < row.len() {
+        row[index] = true;
     }
 }
 

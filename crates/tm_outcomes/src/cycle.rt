@@ -6,10 +6,10 @@
 //! them, which lead back to a state that is shown alike. So what is told is so; that no other is left out is not
 //! promised.
 
-ghost use Rattle.std.specs.Prelude.{◌≡◌, ◌<◌, ◌++◌, ◌^◌, ℕ, All, IfErr, IfOk, IfSome, IsTrue, List, false, length};
-ghost use Rattle.tm_core.specs.Theorem.{StandsFor, view_at};
+ghost use Rattle.std.specs.Prelude.{◌≡◌, ◌<◌, ◌++◌, ℕ, All, IfErr, IfOk, IfSome, IsTrue, List, false, length};
+ghost use Rattle.tm_core.specs.Theorem.{view_at};
 ghost use Rattle.tm_model.specs.declared.outcome.Pick.{Pick};
-ghost use Rattle.tm_outcomes.specs.Nodes.{HaveSchedules, IsTree, IsUsualPick};
+ghost use Rattle.tm_outcomes.specs.Nodes.{AreNodesOf, IsTree, IsUsualPick};
 ghost use Rattle.tm_outcomes.specs.Outcomes.{IsRefusal};
 ghost use Rattle.tm_outcomes.specs.Places.{IsAt, has_stopped};
 ghost use Rattle.tm_outcomes.specs.Searching.{GoesRound, IsMade, IsRoundOf};
@@ -17,12 +17,12 @@ ghost use Rattle.tm_outcomes.specs.Verdicts.{HasStepOf};
 ghost use Rattle.tm_outcomes.specs.Written.{IsBenchOf, IsPlaceIn};
 
 use crate::bench::Bench;
-use crate::components::Components;
 use crate::fault::SearchFault;
 use crate::graph::Graph;
-use crate::laps::lap_of;
+use crate::laps::{FairLinks, lap_of};
 use crate::nodes::{Node, place_of, schedule_of};
 use crate::place::Place;
+use crate::task::Task;
 use crate::trial::Trial;
 use crate::written::Written;
 use std::alloc::{AllocError, Global};
@@ -44,16 +44,15 @@ pub struct Cycle {
 
 // The picks of these links.
 fn picks_of_lap(
-    alloc: Global,
-    trial: &Trial<'_>,
+    task: &Task<'_>,
     graph: &Graph<'_>,
     lap: &[u32],
 ) -> Result<Option<Vec<Pick>>, AllocError>
-    ensures { IfOk result (λ found. IfSome found (λ picks. All (IsUsualPick trial.now) picks.items)) }
+    ensures { IfOk result (λ found. IfSome found (λ picks. All (IsUsualPick task.now.trial) picks.items)) }
 {
-    let mut picks = Vec::new(alloc);
+    let mut picks = Vec::new(task.alloc);
     for link in lap {
-        let Some(pick) = pick_of(trial, graph, *link) else {
+        let Some(pick) = pick_of(&task.trial, graph, *link) else {
             return Ok(None);
         };
         picks.push(pick)?;
@@ -95,59 +94,55 @@ fn stopped_cores(alloc: Global, place: &Place) -> Result<Vec<bool>, AllocError> 
 
 // The picks of a lap from a state on, by which each core makes a step that has not stopped there.
 fn picks_of(
-    alloc: Global,
-    trial: &Trial<'_>,
-    graph: &Graph<'_>,
-    components: &Components,
+    task: &Task<'_>,
+    fair: &FairLinks<'_>,
     first: u32,
     place: &Place,
 ) -> Result<Option<Vec<Pick>>, AllocError>
-    ensures { IfOk result (λ found. IfSome found (λ picks. All (IsUsualPick trial.now) picks.items)) }
+    ensures { IfOk result (λ found. IfSome found (λ picks. All (IsUsualPick task.now.trial) picks.items)) }
 {
-    let mut has_step = stopped_cores(alloc, place)?;
-    let Some(lap) = lap_of(alloc, graph, components, first, &mut has_step)? else {
+    let mut has_step = stopped_cores(task.alloc, place)?;
+    let Some(lap) = lap_of(task.alloc, fair, first, &mut has_step)? else {
         return Ok(None);
     };
-    picks_of_lap(alloc, trial, graph, lap.as_slice())
+    picks_of_lap(task, &fair.graph, lap.as_slice())
 }
 
 // Makes a pick and the steps behind it that no other core sees, with their stores noted before, and adds these steps.
 fn make(
-    alloc: Global,
-    trial: &Trial<'_>,
+    task: &Task<'_>,
     pick: Pick,
     here: &mut Place,
     noted: &mut Written,
     steps: &mut Vec<Pick>,
 ) -> Result<(), AllocError>
-    requires pick { IsUsualPick trial.now pick }
-    requires place { IsPlaceIn trial.now noted.old here.old }
-    requires at { (schedule : List Pick) × IsAt trial.now here.old schedule }
+    requires pick { IsUsualPick task.now.trial pick }
+    requires place { IsPlaceIn task.now.trial noted.old here.old }
+    requires at { (schedule : List Pick) × IsAt task.now.trial here.old schedule }
     ensures { IfOk result (λ _. (added : List Pick) × (steps.new.items ≡ steps.old.items ++ added)
-        × IsMade trial.now here.old here.new noted.old noted.new added) }
+        × IsMade task.now.trial here.old here.new noted.old noted.new added) }
 {
-    noted.note(alloc, &here.machine, pick.core)?;
-    let made = here.advance(alloc, trial, pick)?;
+    noted.note(task.alloc, &here.machine, pick.core)?;
+    let made = here.advance(task.alloc, &task.trial, pick)?;
     steps.extend_from_slice(made.as_slice())?;
     Ok(())
 }
 
 // Makes these picks so, and answers all steps.
 fn make_all(
-    alloc: Global,
-    trial: &Trial<'_>,
+    task: &Task<'_>,
     picks: &[Pick],
     here: &mut Place,
     noted: &mut Written,
 ) -> Result<Vec<Pick>, AllocError>
-    requires picks { All (IsUsualPick trial.now) picks.now }
-    requires place { IsPlaceIn trial.now noted.old here.old }
-    requires at { (schedule : List Pick) × IsAt trial.now here.old schedule }
-    ensures { IfOk result (λ steps. IsMade trial.now here.old here.new noted.old noted.new steps.items) }
+    requires picks { All (IsUsualPick task.now.trial) picks.now }
+    requires place { IsPlaceIn task.now.trial noted.old here.old }
+    requires at { (schedule : List Pick) × IsAt task.now.trial here.old schedule }
+    ensures { IfOk result (λ steps. IsMade task.now.trial here.old here.new noted.old noted.new steps.items) }
 {
-    let mut steps = Vec::new(alloc);
+    let mut steps = Vec::new(task.alloc);
     for pick in picks {
-        make(alloc, trial, *pick, here, noted, &mut steps)?;
+        make(task, *pick, here, noted, &mut steps)?;
     }
     Ok(steps)
 }
@@ -179,21 +174,18 @@ fn has_step_of(core: u8, steps: &[Pick]) -> bool
 
 // Steps that lead from a node round to what is shown as it is, one of each core that has not stopped among them.
 fn round_of(
-    alloc: Global,
-    trial: &Trial<'_>,
+    task: &Task<'_>,
     bench: &mut Bench,
     nodes: &[Node],
-    graph: &Graph<'_>,
-    components: &Components,
+    fair: &FairLinks<'_>,
     first: u32,
 ) -> Result<Option<Vec<Pick>>, SearchFault>
     requires within { first < length nodes.now }
-    requires few { length nodes.now < 2 ^ 32 }
-    requires tree { HaveSchedules trial.now nodes.now }
-    requires bench { IsBenchOf trial.now nodes.now bench.old }
+    requires nodes { AreNodesOf task.now.trial nodes.now }
+    requires bench { IsBenchOf task.now.trial nodes.now bench.old }
     ensures ok { IfOk result (λ found. IfSome found (λ steps. (schedules : List (List Pick)) →
-        IsTree trial.now nodes.now schedules → GoesRound trial.now schedules first steps.items)) }
-    ensures err { IfErr result (IsRefusal trial.now) }
+        IsTree task.now.trial nodes.now schedules → GoesRound task.now.trial schedules first steps.items)) }
+    ensures err { IfErr result (IsRefusal task.now.trial) }
 {
     let Bench {
         here,
@@ -201,12 +193,12 @@ fn round_of(
         noted,
         ..
     } = bench;
-    place_of(alloc, trial, nodes, first as usize, noted, other)?;
-    let Some(picks) = picks_of(alloc, trial, graph, components, first, other)? else {
+    place_of(task, nodes, first as usize, noted, other)?;
+    let Some(picks) = picks_of(task, fair, first, other)? else {
         return Ok(None);
     };
-    place_of(alloc, trial, nodes, first as usize, noted, here)?;
-    let steps = make_all(alloc, trial, picks.as_slice(), here, noted)?;
+    place_of(task, nodes, first as usize, noted, here)?;
+    let steps = make_all(task, picks.as_slice(), here, noted)?;
     if other.has_ended() {
         return Ok(None);
     }
@@ -221,23 +213,19 @@ fn round_of(
 
 /// A cycle of a search that is over, by its links, from a state that is marked, since an end can be reached from it.
 pub fn cycle_of(
-    alloc: Global,
-    trial: &Trial<'_>,
+    task: &Task<'_>,
     bench: &mut Bench,
     nodes: &[Node],
-    graph: &Graph<'_>,
+    fair: &FairLinks<'_>,
     marked: &[bool],
-    ends: &[u32],
 ) -> Result<Option<Cycle>, SearchFault>
     requires marked { length marked.now ≡ length nodes.now }
-    requires few { length nodes.now < 2 ^ 32 }
-    requires tree { HaveSchedules trial.now nodes.now }
-    requires bench { IsBenchOf trial.now nodes.now bench.old }
-    ensures ok { IfOk result (λ cycle. IfSome cycle (IsRoundOf trial.now nodes.now marked.now)) }
-    ensures err { IfErr result (IsRefusal trial.now) }
+    requires nodes { AreNodesOf task.now.trial nodes.now }
+    requires bench { IsBenchOf task.now.trial nodes.now bench.old }
+    ensures ok { IfOk result (λ cycle. IfSome cycle (IsRoundOf task.now.trial nodes.now marked.now)) }
+    ensures err { IfErr result (IsRefusal task.now.trial) }
 {
-    let components = Components::of(alloc, graph, trial.program.cores(), marked, ends)?;
-    let Some(first) = components.first else {
+    let Some(first) = fair.components.first else {
         return Ok(None);
     };
     if first as usize >= nodes.len() {
@@ -246,12 +234,12 @@ pub fn cycle_of(
     if !marked[first as usize] {
         return Ok(None);
     }
-    let Some(steps) = round_of(alloc, trial, bench, nodes, graph, &components, first)? else {
+    let Some(steps) = round_of(task, bench, nodes, fair, first)? else {
         return Ok(None);
     };
-    let schedule = schedule_of(alloc, nodes, first as usize)?;
+    let schedule = schedule_of(task.alloc, nodes, first as usize)?;
     Ok(Some(Cycle {
-        states: components.states,
+        states: fair.components.states,
         schedule,
         steps,
     }))

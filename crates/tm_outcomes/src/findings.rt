@@ -5,19 +5,19 @@
 //! met, so the first schedule that shows something has the fewest steps that are followed. Whether an end can be
 //! reached is asked when the search is over, by `verdict`.
 
-ghost use Rattle.std.specs.Prelude.{◌≡◌, ◌<◌, ◌^◌, ◌++◌, ◌∷◌, [], IfErr, IfOk, List, OnOk, length};
+ghost use Rattle.std.specs.Prelude.{◌≡◌, ◌<◌, ◌++◌, ◌∷◌, [], IfErr, IfOk, List, OnOk, length};
 ghost use Rattle.tm_model.specs.declared.outcome.Pick.{Pick};
-ghost use Rattle.tm_outcomes.specs.Nodes.{HaveSchedules, IsTree};
+ghost use Rattle.tm_outcomes.specs.Nodes.{AreNodesOf, IsTree};
 ghost use Rattle.tm_outcomes.specs.Outcomes.{AreThere, IsRefusal};
 ghost use Rattle.tm_outcomes.specs.Searching.{AreFindings, Shows};
 ghost use Rattle.tm_outcomes.specs.Written.{IsBenchOf};
 
 use crate::bench::Bench;
 use crate::fault::SearchFault;
-use crate::nodes::{Node, schedule_of};
+use crate::nodes::{Node, NodeState, schedule_of};
 use crate::stops::{ReachedStop, take_up_stops};
 use crate::table::{FoundOutcome, take_up};
-use crate::trial::Trial;
+use crate::task::Task;
 use crate::violations::{Violation, take_up_checks};
 use std::alloc::{AllocError, Global};
 
@@ -53,43 +53,39 @@ impl Findings {
     /// Takes up what is found at the state of a node.
     pub fn show(
         &mut self,
-        alloc: Global,
-        trial: &Trial<'_>,
+        task: &Task<'_>,
         bench: &mut Bench,
         nodes: &[Node],
         index: usize,
     ) -> Result<(), SearchFault>
-        requires bench { IsBenchOf trial.now nodes.now bench.old }
+        requires bench { IsBenchOf task.now.trial nodes.now bench.old }
         requires within { index < length nodes.now }
-        requires few { length nodes.now < 2 ^ 32 }
-        requires tree { HaveSchedules trial.now nodes.now }
-        requires there { AreThere trial.now }
-        requires found { AreFindings trial.now self.old }
-        ensures found { OnOk result (AreFindings trial.now self.new) }
-        ensures shows { OnOk result ((schedules : List (List Pick)) → IsTree trial.now nodes.now schedules →
-            Shows trial.now schedules self.old self.new index) }
-        ensures bench { OnOk result (IsBenchOf trial.now nodes.now bench.new) }
+        requires nodes { AreNodesOf task.now.trial nodes.now }
+        requires there { AreThere task.now.trial }
+        requires found { AreFindings task.now.trial self.old }
+        ensures found { OnOk result (AreFindings task.now.trial self.new) }
+        ensures shows { OnOk result ((schedules : List (List Pick)) → IsTree task.now.trial nodes.now schedules →
+            Shows task.now.trial schedules self.old self.new index) }
+        ensures bench { OnOk result (IsBenchOf task.now.trial nodes.now bench.new) }
         ensures noted { bench.new.noted ≡ bench.old.noted }
-        ensures err { IfErr result (IsRefusal trial.now) }
+        ensures err { IfErr result (IsRefusal task.now.trial) }
     {
-        bench.come_to(alloc, trial, nodes, index)?;
+        bench.come_to(task, nodes, index)?;
+        let at = NodeState {
+            nodes,
+            index,
+            place: &bench.start,
+        };
         // A core may stop while others go on for ever: this is no matter of ends.
-        take_up_stops(alloc, trial, nodes, index, &bench.start, &mut self.stops)?;
+        take_up_stops(task, &at, &mut self.stops)?;
         if !bench.start.has_ended() {
             return Ok(());
         }
-        take_up_checks(
-            alloc,
-            trial,
-            nodes,
-            index,
-            &bench.start,
-            &mut self.violations,
-        )?;
+        take_up_checks(task, &at, &mut self.violations)?;
         add_end(&mut self.ends, index as u32)?;
-        let values = bench.start.values(alloc, trial)?;
-        let schedule = schedule_of(alloc, nodes, index)?;
-        take_up(trial, &mut self.outcomes, values, schedule)?;
+        let values = bench.start.values(task.alloc, &task.trial)?;
+        let schedule = schedule_of(task.alloc, nodes, index)?;
+        take_up(&task.trial, &mut self.outcomes, values, schedule)?;
         Ok(())
     }
 }

@@ -3,9 +3,18 @@
 //! [`lap_of`] adds one leg after another, each the shortest to a link of a core that has none yet, and last the
 //! shortest back; all stay within the component. Nothing is promised of a lap: `cycle` makes its steps.
 
-use crate::components::Components;
+use crate::components::{Components, note};
 use crate::graph::Graph;
 use std::alloc::{AllocError, Global};
+
+/// Where laps are looked for: the links of a search that is over, and the components that they make of its states.
+#[derive(Drop)]
+pub struct FairLinks<'a> {
+    /// The links.
+    pub graph: Graph<'a>,
+    /// The components, and the first state of those that are fair.
+    pub components: Components,
+}
 
 /// What is looked for along links.
 #[derive(Clone, Copy)]
@@ -31,8 +40,7 @@ impl Wanted<'_> {
 /// The links of a lap from this state on, within its component, by which each core has a step that has none so far.
 pub fn lap_of(
     alloc: Global,
-    graph: &Graph<'_>,
-    components: &Components,
+    fair: &FairLinks<'_>,
     first: u32,
     has_step: &mut Vec<bool>,
 ) -> Result<Option<Vec<u32>>, AllocError> {
@@ -49,10 +57,10 @@ pub fn lap_of(
         } else {
             Wanted::Core(has_step.as_slice())
         };
-        let Some(leg) = leg_of(alloc, graph, components, at, &wanted)? else {
+        let Some(leg) = leg_of(alloc, fair, at, &wanted)? else {
             return Ok(None);
         };
-        at = take_up(graph, leg.as_slice(), &mut lap, has_step, at)?;
+        at = take_up(&fair.graph, leg.as_slice(), &mut lap, has_step, at)?;
         if is_last {
             return Ok(Some(lap));
         }
@@ -79,13 +87,6 @@ fn take_up(
     Ok(at)
 }
 
-fn note(has_step: &mut Vec<bool>, core: u8) {
-    let index = usize::from(core);
-    if index < has_step.len() {
-        has_step[index] = true;
-    }
-}
-
 /// The states that were met from one on, breadth first.
 #[derive(Drop)]
 struct Reached {
@@ -98,21 +99,20 @@ struct Reached {
 // The fewest links that lead from a state on, within its component, through one that is wanted.
 fn leg_of(
     alloc: Global,
-    graph: &Graph<'_>,
-    components: &Components,
+    fair: &FairLinks<'_>,
     from: u32,
     wanted: &Wanted<'_>,
 ) -> Result<Option<Vec<u32>>, AllocError> {
     let mut reached = Reached {
         queue: vec![in alloc; from]?,
-        by: vec![in alloc; None; graph.states()]?,
+        by: vec![in alloc; None; fair.graph.states()]?,
     };
-    for done in 0..graph.states() {
+    for done in 0..fair.graph.states() {
         let Some(state) = reached.queue.get(done).copied() else {
             return Ok(None);
         };
-        if let Some(last) = reached.go_on(graph, components, state, wanted)? {
-            return Ok(Some(reached.way_to(alloc, graph, from, last)?));
+        if let Some(last) = reached.go_on(fair, state, wanted)? {
+            return Ok(Some(reached.way_to(alloc, &fair.graph, from, last)?));
         }
     }
     Ok(None)
@@ -122,18 +122,17 @@ impl Reached {
     // Meets the states of the component to which links lead from this one, up to a link that is wanted.
     fn go_on(
         &mut self,
-        graph: &Graph<'_>,
-        components: &Components,
+        fair: &FairLinks<'_>,
         state: u32,
         wanted: &Wanted<'_>,
     ) -> Result<Option<u32>, AllocError> {
-        let (start, end) = graph.span(state);
+        let (start, end) = fair.graph.span(state);
         for link in start..end {
-            if components.is_inner(graph, link) {
-                if wanted.is(graph, link) {
+            if fair.components.is_inner(&fair.graph, link) {
+                if wanted.is(&fair.graph, link) {
                     return Ok(Some(link));
                 }
-                self.meet(graph, link)?;
+                self.meet(&fair.graph, link)?;
             }
         }
         Ok(None)

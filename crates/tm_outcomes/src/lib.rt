@@ -40,6 +40,7 @@ mod searching;
 mod stops;
 mod stuck;
 mod table;
+mod task;
 mod trial;
 mod verdict;
 mod violations;

@@ -3,7 +3,7 @@
 //! A [`Link`] is added for each step that is followed, to a new state or a known one (`searching`). [`Sources`] are
 //! made of them all when the search is over, for `marks`, as two lists of numbers in place of a list for each node.
 
-ghost use Rattle.std.specs.Prelude.{◌≡◌, ◌<◌, ◌^◌, ◌∷◌, ◌++◌, [], All, IfOk, length, slice_set};
+ghost use Rattle.std.specs.Prelude.{◌<◌, All, IfOk, length};
 ghost use Rattle.std.specs.Prelude.{Some};
 ghost use Rattle.tm_outcomes.specs.Links.{AreSources, HasSource, LiesWithin};
 

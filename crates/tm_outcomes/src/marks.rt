@@ -3,7 +3,7 @@
 //! [`marks_of`] goes from the ends against the links, breadth first, and comes to each node once; links under
 //! events count as others do. What is not marked is told by `stuck`, and what need not end of the rest by `cycle`.
 
-ghost use Rattle.std.specs.Prelude.{◌≡◌, ◌<◌, ◌^◌, All, Contains, IfOk, length};
+ghost use Rattle.std.specs.Prelude.{◌<◌, All, IfOk, length};
 ghost use Rattle.tm_outcomes.specs.Links.{AreSources, LiesWithin};
 ghost use Rattle.tm_outcomes.specs.Marks.{AreEnds, AreMarks, HasMarked, HasPassed};
 

@@ -4,17 +4,17 @@
 //! machine there by making it (`replay`). Whether two nodes are one state is not known from this: `bench` compares
 //! machines.
 
-ghost use Rattle.std.specs.Prelude.{◌≡◌, ◌<◌, ◌≤◌, ◌^◌, ◌++◌, All, List, IfErr, IfOk, length, reverse};
+ghost use Rattle.std.specs.Prelude.{◌≡◌, ◌<◌, ◌^◌, ◌++◌, All, List, IfErr, IfOk, length, reverse};
 ghost use Rattle.tm_model.specs.declared.outcome.Pick.{Pick};
-ghost use Rattle.tm_outcomes.specs.Nodes.{HaveSchedules, IsOnWay, IsTree, schedule_at, steps_along};
+ghost use Rattle.tm_outcomes.specs.Nodes.{AreNodesOf, HaveSchedules, IsOnWay, IsTree, StandsAtNode, schedule_at};
+ghost use Rattle.tm_outcomes.specs.Nodes.{steps_along};
 ghost use Rattle.tm_outcomes.specs.Outcomes.{IsRefusal};
-ghost use Rattle.tm_outcomes.specs.Places.{IsAt};
 ghost use Rattle.tm_outcomes.specs.Written.{IsPlaceIn, IsWrittenOf};
 ghost use Rattle.tm_outcomes.specs.declared.trial.Trial.{Trial};
 
 use crate::fault::SearchFault;
 use crate::place::Place;
-use crate::trial::Trial;
+use crate::task::Task;
 use crate::written::Written;
 use std::alloc::{AllocError, Global};
 use tm_model::Pick;
@@ -30,6 +30,17 @@ pub struct Node {
     pub digest: u64,
     /// The node before this one whose digest is the same.
     pub older: Option<u32>,
+}
+
+/// A node, and a machine that stands there: what a state shows is read of it.
+#[derive(Clone, Copy)]
+pub struct NodeState<'a> {
+    /// The states that were met.
+    pub nodes: &'a [Node],
+    /// Which of them it is.
+    pub index: usize,
+    /// The machine that stands there.
+    pub place: &'a Place,
 }
 
 /// The schedule of a node.
@@ -85,24 +96,21 @@ fn way_of(alloc: Global, nodes: &[Node], index: usize) -> Result<Vec<u32>, Alloc
 
 /// Brings a place to the node.
 pub fn place_of(
-    alloc: Global,
-    trial: &Trial<'_>,
+    task: &Task<'_>,
     nodes: &[Node],
     index: usize,
     written: &Written,
     place: &mut Place,
 ) -> Result<(), SearchFault>
     requires within { index < length nodes.now }
-    requires few { length nodes.now < 2 ^ 32 }
-    requires tree { HaveSchedules trial.now nodes.now }
-    requires written { IsWrittenOf trial.now nodes.now written.now }
-    requires place { IsPlaceIn trial.now written.now place.old }
-    ensures place { IsPlaceIn trial.now written.now place.new }
-    ensures ok { IfOk result (λ _. (schedules : List (List Pick)) → IsTree trial.now nodes.now schedules →
-        IsAt trial.now place.new (schedule_at schedules index)) }
-    ensures err { IfErr result (IsRefusal trial.now) }
+    requires nodes { AreNodesOf task.now.trial nodes.now }
+    requires written { IsWrittenOf task.now.trial nodes.now written.now }
+    requires place { IsPlaceIn task.now.trial written.now place.old }
+    ensures place { IsPlaceIn task.now.trial written.now place.new }
+    ensures ok { IfOk result (λ _. StandsAtNode task.now.trial nodes.now place.new index) }
+    ensures err { IfErr result (IsRefusal task.now.trial) }
 {
-    let way = way_of(alloc, nodes, index)?;
-    place.replay(trial, written, nodes, way.as_slice());
+    let way = way_of(task.alloc, nodes, index)?;
+    place.replay(&task.trial, written, nodes, way.as_slice());
     Ok(())
 }

@@ -117,11 +117,14 @@ impl Place {
 
 impl Place {
     /// Whether another place goes on as this one does.
+    #[tactic(auto, using(tm_core::proofs::NonePending::none_alike))]
     pub fn is_alike(&self, other: &Place, written: &Written) -> bool
         requires memory { IsSameElsewhere written.now.lines.items self.now.machine.memory written.now.opening.items }
         requires others { IsSameElsewhere written.now.lines.items other.now.machine.memory written.now.opening.items }
         ensures { IsTrue result ↔ AreAlike self.now other.now }
     {
+        self.machine.nothing_pending();
+        other.machine.nothing_pending();
         if self.machine.cores() != other.machine.cores() {
             return false;
         }

@@ -4,10 +4,11 @@
 //! whichever order it and their steps are made, the same states follow. So a search makes these steps at once, and
 //! follows the others (`specs/Unseen.antt`).
 
-ghost use Rattle.std.specs.Prelude.{◌≡◌, ◌<◌, ℕ, IfOk, List, length, true};
+ghost use Rattle.std.specs.Prelude.{◌≡◌, ◌<◌, ℕ, IfOk, length, true};
 ghost use Rattle.tm_core.specs.Theorem.{StandsFor, view_at};
 ghost use Rattle.tm_model.specs.Access.{loaded_addresses};
 ghost use Rattle.tm_model.specs.Setting.{program_setting};
+ghost use Rattle.tm_model.specs.State.{seen_by};
 ghost use Rattle.tm_model.specs.declared.outcome.Pick.{Pick};
 ghost use Rattle.tm_outcomes.specs.Nodes.{IsPickOf};
 ghost use Rattle.tm_outcomes.specs.Outcomes.{trial_setting, usual_event};
@@ -44,7 +45,7 @@ fn is_condemned(state: CoreState) -> bool
 // Whether the instruction at these registers loads nothing.
 fn loads_nothing(program: &Program, regs: &Regs) -> bool
     ensures { (reads writes : ℕ) →
-        result ≡ are_none ((program_setting program.now reads writes).load_of regs.now) }
+        result ≡ are_none ((program_setting program.now reads writes 0).load_of regs.now) }
 {
     let code = Code {
         bytes: program.code(),
@@ -88,18 +89,19 @@ impl Place {
         requires core { core < length trial.now.program.now.entries }
         requires running { is_running (view_at self.now.machine core).mode ≡ true }
         ensures { (now : Situation) → StandsFor self.now.machine now.state now.doomed →
-            result ≡ touches_nothing (trial_setting trial.now) now.state.memory (view_at self.now.machine core).base }
+            result ≡ touches_nothing (trial_setting trial.now) (seen_by now.state core)
+            (view_at self.now.machine core).base }
     {
         let Ok(regs) = self.machine.base_regs(core) else {
             unreachable!();
         };
-        let Ok(reach) = self.machine.reach(core) else {
+        let Ok(preview) = self.machine.preview(core) else {
             unreachable!();
         };
         if !loads_nothing(trial.program, &regs) {
             return false;
         }
-        is_absent(reach.store)
+        is_absent(preview.reach.store)
     }
 
     // Whether no other core sees the next step of a core, and none changes it.
@@ -107,7 +109,8 @@ impl Place {
         requires place { IsPlaceOf trial.now self.now }
         requires core { core < length trial.now.program.now.entries }
         ensures { (now : Situation) → StandsFor self.now.machine now.state now.doomed →
-            result ≡ is_unseen (trial_setting trial.now) now.state.memory (now.state.cores core) (now.doomed core) }
+            result ≡ is_unseen (trial_setting trial.now) (seen_by now.state core) (now.state.cores core)
+            (now.doomed core) }
     {
         let Ok(state) = self.machine.state(core) else {
             unreachable!();

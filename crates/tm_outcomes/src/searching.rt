@@ -5,22 +5,22 @@
 //! and the state there is looked for among those of its digest before it counts as new. A new one above the limit
 //! cuts the search; otherwise its links are judged (`verdict`).
 
-ghost use Rattle.std.specs.Prelude.{◌≡◌, ◌<◌, ◌≤◌, ◌+◌, ◌++◌, ◌∷◌, ◌^◌, [], ℕ, All, IfErr, IfOk, List, OnOk, false};
+ghost use Rattle.std.specs.Prelude.{◌≡◌, ◌<◌, ◌≤◌, ◌+◌, ◌++◌, ◌∷◌, ◌^◌, [], All, IfErr, IfOk, OnOk, false};
 ghost use Rattle.std.specs.Prelude.{length};
 ghost use Rattle.std.specs.HashMap.{Updates};
 ghost use Rattle.std.specs.Prelude.{None, Option, Some, nat_eq, true};
 ghost use Rattle.tm_model.specs.declared.outcome.Event.{Event};
 ghost use Rattle.tm_model.specs.declared.outcome.Pick.{Pick};
-ghost use Rattle.tm_outcomes.specs.Kept.{AreKept, AreNewest, AreOlder, digest_at};
+ghost use Rattle.tm_outcomes.specs.Following.{GoesOnFrom, HasBench, HasFollowed, IsNeededAt, IsNewBench, IsOpenAt};
+ghost use Rattle.tm_outcomes.specs.Following.{IsUntouchedAt};
+ghost use Rattle.tm_outcomes.specs.Kept.{AreNewest, AreOlder, digest_at};
 ghost use Rattle.tm_outcomes.specs.Links.{LiesWithin};
-ghost use Rattle.tm_outcomes.specs.Nodes.{HaveSchedules, IsNeededBehind, IsOpenBehind, IsPickOf, IsTree, IsUntouched};
-ghost use Rattle.tm_outcomes.specs.Nodes.{schedule_at};
+ghost use Rattle.tm_outcomes.specs.Nodes.{AreNodesOf, IsPickOf, StandsAtNode};
 ghost use Rattle.tm_outcomes.specs.Outcomes.{AreThere, IsAllowed, IsNoneOrOneOf, IsRefusal, IsSearch, usual_event};
-ghost use Rattle.tm_outcomes.specs.Places.{IsAt};
-ghost use Rattle.tm_outcomes.specs.Searching.{AreFindings, HaveDone, IsCutOf, IsFollowedIn, IsOneOf, IsOver, IsThis};
+ghost use Rattle.tm_outcomes.specs.Searching.{AreFindings, HaveDone, IsCutOf, IsOneOf, IsOver, IsThis};
 ghost use Rattle.tm_outcomes.specs.Searching.{IsWholeOf};
 ghost use Rattle.tm_outcomes.specs.Verdicts.{IsVerdict};
-ghost use Rattle.tm_outcomes.specs.Written.{IsBenchOf, IsPlaceIn};
+ghost use Rattle.tm_outcomes.specs.Written.{IsBenchOf};
 ghost use Rattle.tm_outcomes.specs.declared.links.Link.{Link};
 ghost use Rattle.tm_outcomes.specs.declared.trial.Trial.{Trial};
 
@@ -33,8 +33,9 @@ use crate::nodes::Node;
 use crate::stops::ReachedStop;
 use crate::stuck::Stuck;
 use crate::table::FoundOutcome;
+use crate::task::Task;
 use crate::trial::{Events, Trial};
-use crate::verdict::{Verdict, verdict_of};
+use crate::verdict::{Judged, Verdict, verdict_of};
 use crate::violations::Violation;
 use crate::watching::{Unwatched, Watching};
 use std::alloc::{AllocError, Global};
@@ -157,35 +158,24 @@ impl Searching {
     // Takes up the state after a pick and the steps behind it that no other core sees, where it is new.
     fn follow(
         &mut self,
-        alloc: Global,
-        trial: &Trial<'_>,
+        task: &Task<'_>,
         bench: &mut Bench,
         index: usize,
         pick: Pick,
-        most: u32,
     ) -> Result<Followed, SearchFault>
-        requires bench { IsBenchOf trial.now self.old.nodes.items bench.old }
-        requires within { index < length self.old.nodes.items }
-        requires is_pick { IsPickOf trial.now pick }
-        requires needed { (schedules : List (List Pick)) → IsTree trial.now self.old.nodes.items schedules →
-            IsNeededBehind trial.now (schedule_at schedules index) pick }
-        requires few { length self.old.nodes.items ≤ most }
-        requires tree { HaveSchedules trial.now self.old.nodes.items }
-        requires kept { AreKept trial.now self.old bench.old.noted }
+        requires from { GoesOnFrom task.now.trial task.now.most self.old bench.old index }
+        requires is_pick { IsPickOf task.now.trial pick }
+        requires needed { IsNeededAt task.now.trial self.old.nodes.items index pick }
         ensures found { self.new.found ≡ self.old.found }
-        ensures followed { IfOk result (λ r. r.progress ≡ Progress.GoesOn →
-            IsFollowedIn trial.now most self.old self.new index pick.core (IsThis pick.event)) }
-        ensures untouched { IfOk result (λ r. r.was_open ≡ false → (schedules : List (List Pick)) →
-            IsTree trial.now self.old.nodes.items schedules → IsUntouched trial.now schedules index pick.core) }
-        ensures opened { IfOk result (λ r. r.was_open ≡ true → (schedules : List (List Pick)) →
-            IsTree trial.now self.old.nodes.items schedules
-            → IsOpenBehind trial.now (schedule_at schedules index) pick.core) }
-        ensures cut { IfOk result (λ r. r.progress ≡ Progress.IsCut → length self.new.nodes.items ≡ most) }
-        ensures bench { OnOk result (IsBenchOf trial.now self.new.nodes.items bench.new) }
-        ensures kept { OnOk result (AreKept trial.now self.new bench.new.noted) }
-        ensures err { IfErr result (IsRefusal trial.now) }
+        ensures followed { IfOk result (λ r. HasFollowed task.now.trial task.now.most self.old self.new bench.new
+            index pick.core (IsThis pick.event) r.progress) }
+        ensures untouched { IfOk result (λ r. r.was_open ≡ false →
+            IsUntouchedAt task.now.trial self.old.nodes.items index pick.core) }
+        ensures opened { IfOk result (λ r. r.was_open ≡ true →
+            IsOpenAt task.now.trial self.old.nodes.items index pick.core) }
+        ensures err { IfErr result (IsRefusal task.now.trial) }
     {
-        bench.come_to(alloc, trial, self.nodes.as_slice(), index)?;
+        bench.come_to(task, self.nodes.as_slice(), index)?;
         if bench.start.has_stopped(pick.core) {
             // It stays where it is.
             self.join(index, index, pick.core)?;
@@ -194,50 +184,40 @@ impl Searching {
                 was_open: false,
             });
         }
-        bench.set_out(alloc, trial, self.nodes.as_slice(), index)?;
-        self.follow_here(alloc, trial, bench, index, pick, most)
+        bench.set_out(task, self.nodes.as_slice(), index)?;
+        self.follow_here(task, bench, index, pick)
     }
 
     // [`Searching::follow`], where the state that goes on stands at the node already.
     fn follow_here(
         &mut self,
-        alloc: Global,
-        trial: &Trial<'_>,
+        task: &Task<'_>,
         bench: &mut Bench,
         index: usize,
         pick: Pick,
-        most: u32,
     ) -> Result<Followed, SearchFault>
-        requires bench { IsBenchOf trial.now self.old.nodes.items bench.old }
-        requires here { (schedules : List (List Pick)) → IsTree trial.now self.old.nodes.items schedules →
-            IsAt trial.now bench.old.here (schedule_at schedules index) }
-        requires within { index < length self.old.nodes.items }
-        requires is_pick { IsPickOf trial.now pick }
-        requires needed { (schedules : List (List Pick)) → IsTree trial.now self.old.nodes.items schedules →
-            IsNeededBehind trial.now (schedule_at schedules index) pick }
-        requires few { length self.old.nodes.items ≤ most }
-        requires tree { HaveSchedules trial.now self.old.nodes.items }
-        requires kept { AreKept trial.now self.old bench.old.noted }
+        requires from { GoesOnFrom task.now.trial task.now.most self.old bench.old index }
+        requires here { StandsAtNode task.now.trial self.old.nodes.items bench.old.here index }
+        requires is_pick { IsPickOf task.now.trial pick }
+        requires needed { IsNeededAt task.now.trial self.old.nodes.items index pick }
         ensures found { self.new.found ≡ self.old.found }
-        ensures followed { IfOk result (λ r. r.progress ≡ Progress.GoesOn →
-            IsFollowedIn trial.now most self.old self.new index pick.core (IsThis pick.event)) }
-        ensures untouched { IfOk result (λ r. r.was_open ≡ false → (schedules : List (List Pick)) →
-            IsTree trial.now self.old.nodes.items schedules → IsUntouched trial.now schedules index pick.core) }
-        ensures opened { IfOk result (λ r. r.was_open ≡ true → (schedules : List (List Pick)) →
-            IsTree trial.now self.old.nodes.items schedules
-            → IsOpenBehind trial.now (schedule_at schedules index) pick.core) }
-        ensures cut { IfOk result (λ r. r.progress ≡ Progress.IsCut → length self.new.nodes.items ≡ most) }
-        ensures bench { OnOk result (IsBenchOf trial.now self.new.nodes.items bench.new) }
-        ensures kept { OnOk result (AreKept trial.now self.new bench.new.noted) }
-        ensures err { IfErr result (IsRefusal trial.now) }
+        ensures followed { IfOk result (λ r. HasFollowed task.now.trial task.now.most self.old self.new bench.new
+            index pick.core (IsThis pick.event) r.progress) }
+        ensures untouched { IfOk result (λ r. r.was_open ≡ false →
+            IsUntouchedAt task.now.trial self.old.nodes.items index pick.core) }
+        ensures opened { IfOk result (λ r. r.was_open ≡ true →
+            IsOpenAt task.now.trial self.old.nodes.items index pick.core) }
+        ensures err { IfErr result (IsRefusal task.now.trial) }
     {
         let was_open = bench.here.is_open(pick.core);
         // Before the step: behind it the machine tells no more what it could store to.
-        bench.noted.note(alloc, &bench.here.machine, pick.core)?;
-        let steps = bench.here.advance(alloc, trial, pick)?;
+        bench
+            .noted
+            .note(task.alloc, &bench.here.machine, pick.core)?;
+        let steps = bench.here.advance(task.alloc, &task.trial, pick)?;
         let digest = bench.here.digest(&bench.noted);
         let old = self.newest.get(&digest).copied();
-        if let Some(known) = bench.find(alloc, trial, self.nodes.as_slice(), old)? {
+        if let Some(known) = bench.find(task, self.nodes.as_slice(), old)? {
             self.join(index, known, pick.core)?;
             return Ok(Followed {
                 progress: Progress::GoesOn,
@@ -245,7 +225,8 @@ impl Searching {
             });
         }
         // Only a state that is new counts against the limit.
-        if self.nodes.len() >= most as usize {
+        let most = task.most as usize;
+        if self.nodes.len() >= most {
             return Ok(Followed {
                 progress: Progress::IsCut,
                 was_open,
@@ -270,37 +251,28 @@ impl Searching {
     // Takes up the states after the next step of a core: one under each event of these.
     fn follow_each(
         &mut self,
-        alloc: Global,
-        trial: &Trial<'_>,
+        task: &Task<'_>,
         bench: &mut Bench,
         index: usize,
         core: u8,
         events: &[Event],
-        most: u32,
     ) -> Result<Progress, SearchFault>
-        requires bench { IsBenchOf trial.now self.old.nodes.items bench.old }
-        requires within { index < length self.old.nodes.items }
-        requires is_core { core < length trial.now.program.now.entries }
-        requires opened { (schedules : List (List Pick)) → IsTree trial.now self.old.nodes.items schedules →
-            IsOpenBehind trial.now (schedule_at schedules index) core }
-        requires allowed { (event : Option Event) → IsNoneOrOneOf events.now event → IsAllowed trial.now.events event }
-        requires few { length self.old.nodes.items ≤ most }
-        requires tree { HaveSchedules trial.now self.old.nodes.items }
-        requires kept { AreKept trial.now self.old bench.old.noted }
+        requires from { GoesOnFrom task.now.trial task.now.most self.old bench.old index }
+        requires is_core { core < length task.now.trial.program.now.entries }
+        requires opened { IsOpenAt task.now.trial self.old.nodes.items index core }
+        requires allowed { (event : Option Event) → IsNoneOrOneOf events.now event →
+            IsAllowed task.now.trial.events event }
         ensures found { self.new.found ≡ self.old.found }
-        ensures followed { IfOk result (λ progress. progress ≡ Progress.GoesOn →
-            IsFollowedIn trial.now most self.old self.new index core (IsOneOf events.now)) }
-        ensures cut { IfOk result (λ progress. progress ≡ Progress.IsCut → length self.new.nodes.items ≡ most) }
-        ensures bench { OnOk result (IsBenchOf trial.now self.new.nodes.items bench.new) }
-        ensures kept { OnOk result (AreKept trial.now self.new bench.new.noted) }
-        ensures err { IfErr result (IsRefusal trial.now) }
+        ensures followed { IfOk result (HasFollowed task.now.trial task.now.most self.old self.new bench.new
+            index core (IsOneOf events.now)) }
+        ensures err { IfErr result (IsRefusal task.now.trial) }
     {
         for event in events {
             let pick = Pick {
                 core,
                 event: Some(*event),
             };
-            let followed = self.follow(alloc, trial, bench, index, pick, most)?;
+            let followed = self.follow(task, bench, index, pick)?;
             let Progress::GoesOn = followed.progress else {
                 return Ok(Progress::IsCut);
             };
@@ -312,85 +284,60 @@ impl Searching {
     // an event aborts, its step is the same under each of them, and leads nowhere else.
     fn follow_any(
         &mut self,
-        alloc: Global,
-        trial: &Trial<'_>,
+        task: &Task<'_>,
         bench: &mut Bench,
         index: usize,
         core: u8,
         events: &[Event],
-        most: u32,
     ) -> Result<Progress, SearchFault>
-        requires bench { IsBenchOf trial.now self.old.nodes.items bench.old }
-        requires within { index < length self.old.nodes.items }
-        requires is_core { core < length trial.now.program.now.entries }
-        requires usual { usual_event trial.now.events ≡ None }
-        requires allowed { (event : Option Event) → IsNoneOrOneOf events.now event → IsAllowed trial.now.events event }
-        requires few { length self.old.nodes.items ≤ most }
-        requires tree { HaveSchedules trial.now self.old.nodes.items }
-        requires kept { AreKept trial.now self.old bench.old.noted }
+        requires from { GoesOnFrom task.now.trial task.now.most self.old bench.old index }
+        requires is_core { core < length task.now.trial.program.now.entries }
+        requires usual { usual_event task.now.trial.events ≡ None }
+        requires allowed { (event : Option Event) → IsNoneOrOneOf events.now event →
+            IsAllowed task.now.trial.events event }
         ensures found { self.new.found ≡ self.old.found }
-        ensures followed { IfOk result (λ progress. progress ≡ Progress.GoesOn →
-            IsFollowedIn trial.now most self.old self.new index core
-            (IsNoneOrOneOf events.now)) }
-        ensures cut { IfOk result (λ progress. progress ≡ Progress.IsCut → length self.new.nodes.items ≡ most) }
-        ensures bench { OnOk result (IsBenchOf trial.now self.new.nodes.items bench.new) }
-        ensures kept { OnOk result (AreKept trial.now self.new bench.new.noted) }
-        ensures err { IfErr result (IsRefusal trial.now) }
+        ensures followed { IfOk result (HasFollowed task.now.trial task.now.most self.old self.new bench.new
+            index core (IsNoneOrOneOf events.now)) }
+        ensures err { IfErr result (IsRefusal task.now.trial) }
     {
         let alone = Pick { core, event: None };
-        let followed = self.follow(alloc, trial, bench, index, alone, most)?;
+        let followed = self.follow(task, bench, index, alone)?;
         let Progress::GoesOn = followed.progress else {
             return Ok(Progress::IsCut);
         };
         if !followed.was_open {
             return Ok(Progress::GoesOn);
         }
-        self.follow_each(alloc, trial, bench, index, core, events, most)
+        self.follow_each(task, bench, index, core, events)
     }
 
     // Takes up the states after the next step of a core, under all that the trial says.
     fn follow_core(
         &mut self,
-        alloc: Global,
-        trial: &Trial<'_>,
+        task: &Task<'_>,
         bench: &mut Bench,
         index: usize,
         core: u8,
-        most: u32,
     ) -> Result<Progress, SearchFault>
-        requires bench { IsBenchOf trial.now self.old.nodes.items bench.old }
-        requires within { index < length self.old.nodes.items }
-        requires is_core { core < length trial.now.program.now.entries }
-        requires few { length self.old.nodes.items ≤ most }
-        requires tree { HaveSchedules trial.now self.old.nodes.items }
-        requires kept { AreKept trial.now self.old bench.old.noted }
+        requires from { GoesOnFrom task.now.trial task.now.most self.old bench.old index }
+        requires is_core { core < length task.now.trial.program.now.entries }
         ensures found { self.new.found ≡ self.old.found }
-        ensures followed { IfOk result (λ progress. progress ≡ Progress.GoesOn →
-            IsFollowedIn trial.now most self.old self.new index core
-            (IsAllowed trial.now.events)) }
-        ensures cut { IfOk result (λ progress. progress ≡ Progress.IsCut → length self.new.nodes.items ≡ most) }
-        ensures bench { OnOk result (IsBenchOf trial.now self.new.nodes.items bench.new) }
-        ensures kept { OnOk result (AreKept trial.now self.new bench.new.noted) }
-        ensures err { IfErr result (IsRefusal trial.now) }
+        ensures followed { IfOk result (HasFollowed task.now.trial task.now.most self.old self.new bench.new
+            index core (IsAllowed task.now.trial.events)) }
+        ensures err { IfErr result (IsRefusal task.now.trial) }
     {
-        match trial.events {
+        match task.trial.events {
             Events::Never => {
                 let alone = Pick { core, event: None };
-                Ok(
-                    self.follow(alloc, trial, bench, index, alone, most)?
-                        .progress,
-                )
+                Ok(self.follow(task, bench, index, alone)?.progress)
             }
-            Events::May(events) => self.follow_any(alloc, trial, bench, index, core, events, most),
+            Events::May(events) => self.follow_any(task, bench, index, core, events),
             Events::Always(event) => {
                 let under = Pick {
                     core,
                     event: Some(event),
                 };
-                Ok(
-                    self.follow(alloc, trial, bench, index, under, most)?
-                        .progress,
-                )
+                Ok(self.follow(task, bench, index, under)?.progress)
             }
         }
     }
@@ -400,29 +347,24 @@ impl Searching {
     // Takes up what a state shows, and the states after the next step of each core.
     fn expand(
         &mut self,
-        alloc: Global,
-        trial: &Trial<'_>,
+        task: &Task<'_>,
         bench: &mut Bench,
         index: usize,
-        most: u32,
     ) -> Result<Progress, SearchFault>
-        requires bench { IsBenchOf trial.now self.old.nodes.items bench.old }
+        requires has_bench { HasBench task.now.trial self.old bench.old }
         requires within { index < length self.old.nodes.items }
-        requires there { AreThere trial.now }
-        requires done { HaveDone trial.now most self.old index }
-        requires kept { AreKept trial.now self.old bench.old.noted }
+        requires there { AreThere task.now.trial }
+        requires done { HaveDone task.now.trial task.now.most self.old index }
         ensures goes_on { IfOk result (λ progress. progress ≡ Progress.GoesOn →
-            HaveDone trial.now most self.new (index + 1)) }
+            HaveDone task.now.trial task.now.most self.new (index + 1)) }
         ensures cut { IfOk result (λ progress. progress ≡ Progress.IsCut →
-            (length self.new.nodes.items ≡ most) × AreFindings trial.now self.new.found) }
-        ensures bench { OnOk result (IsBenchOf trial.now self.new.nodes.items bench.new) }
-        ensures kept { OnOk result (AreKept trial.now self.new bench.new.noted) }
-        ensures err { IfErr result (IsRefusal trial.now) }
+            (length self.new.nodes.items ≡ task.now.most) × AreFindings task.now.trial self.new.found) }
+        ensures has_bench { OnOk result (HasBench task.now.trial self.new bench.new) }
+        ensures err { IfErr result (IsRefusal task.now.trial) }
     {
-        self.found
-            .show(alloc, trial, bench, self.nodes.as_slice(), index)?;
-        for core in 0..trial.program.cores() {
-            let Progress::GoesOn = self.follow_core(alloc, trial, bench, index, core, most)? else {
+        self.found.show(task, bench, self.nodes.as_slice(), index)?;
+        for core in 0..task.trial.program.cores() {
+            let Progress::GoesOn = self.follow_core(task, bench, index, core)? else {
                 return Ok(Progress::IsCut);
             };
         }
@@ -430,19 +372,13 @@ impl Searching {
     }
 
     // What it came to where it is over. The map, which takes most of its memory, goes before the marks come.
-    fn whole(
-        self,
-        alloc: Global,
-        trial: &Trial<'_>,
-        bench: &mut Bench,
-    ) -> Result<Search, SearchFault>
-        requires few { length self.nodes.items < 2 ^ 32 }
-        requires tree { HaveSchedules trial.now self.nodes.items }
-        requires bench { IsBenchOf trial.now self.nodes.items bench.old }
+    fn whole(self, task: &Task<'_>, bench: &mut Bench) -> Result<Search, SearchFault>
+        requires nodes { AreNodesOf task.now.trial self.nodes.items }
+        requires bench { IsBenchOf task.now.trial self.nodes.items bench.old }
         requires links { All (LiesWithin (length self.nodes.items)) self.links.items }
         requires ends { All (λ node. node < length self.nodes.items) self.found.ends.items }
-        ensures ok { IfOk result (IsWholeOf trial.now self) }
-        ensures err { IfErr result (IsRefusal trial.now) }
+        ensures ok { IfOk result (IsWholeOf task.now.trial self) }
+        ensures err { IfErr result (IsRefusal task.now.trial) }
     {
         let Searching {
             nodes,
@@ -458,15 +394,13 @@ impl Searching {
             stops,
             violations,
         } = found;
-        let verdict = verdict_of(
-            alloc,
-            trial,
-            bench,
-            nodes.as_slice(),
-            links.as_slice(),
-            cores.as_slice(),
-            ends.as_slice(),
-        )?;
+        let judged = Judged {
+            nodes: nodes.as_slice(),
+            links: links.as_slice(),
+            cores: cores.as_slice(),
+            ends: ends.as_slice(),
+        };
+        let verdict = verdict_of(task, bench, &judged)?;
         let Verdict { stuck, cycle } = verdict;
         Ok(Search {
             outcomes,
@@ -521,29 +455,22 @@ struct Explored {
 
 // Takes up one state after another.
 fn explore<W: Watching>(
-    alloc: Global,
-    trial: &Trial<'_>,
+    task: &Task<'_>,
     bench: &mut Bench,
-    most: u32,
     watching: &mut W,
 ) -> Result<Explored, SearchFault>
-    requires start { IsPlaceIn trial.now bench.old.noted bench.old.start }
-    requires here { IsPlaceIn trial.now bench.old.noted bench.old.here }
-    requires other { IsPlaceIn trial.now bench.old.noted bench.old.other }
-    requires at { bench.old.at ≡ None }
-    requires begins { IsAt trial.now bench.old.here [] }
-    requires there { AreThere trial.now }
-    requires some { 1 ≤ most }
+    requires bench { IsNewBench task.now.trial bench.old }
+    requires there { AreThere task.now.trial }
+    requires some { 1 ≤ task.now.most }
     ensures whole { IfOk result
-        (λ explored. explored.progress ≡ Progress.GoesOn → IsOver trial.now most explored.search) }
+        (λ explored. explored.progress ≡ Progress.GoesOn → IsOver task.now.trial task.now.most explored.search) }
     ensures cut { IfOk result (λ explored. explored.progress ≡ Progress.IsCut →
-        (length explored.search.nodes.items ≡ most) × AreFindings trial.now explored.search.found) }
-    ensures bench { IfOk result (λ explored. IsBenchOf trial.now explored.search.nodes.items bench.new) }
-    ensures kept { IfOk result (λ explored. AreKept trial.now explored.search bench.new.noted) }
-    ensures err { IfErr result (IsRefusal trial.now) }
+        (length explored.search.nodes.items ≡ task.now.most) × AreFindings task.now.trial explored.search.found) }
+    ensures has_bench { IfOk result (λ explored. HasBench task.now.trial explored.search bench.new) }
+    ensures err { IfErr result (IsRefusal task.now.trial) }
 {
-    let mut search = Searching::opening(alloc, bench.here.digest(&bench.noted))?;
-    for index in 0..most {
+    let mut search = Searching::opening(task.alloc, bench.here.digest(&bench.noted))?;
+    for index in 0..task.most {
         if index as usize >= search.nodes.len() {
             return Ok(Explored {
                 search,
@@ -553,7 +480,7 @@ fn explore<W: Watching>(
         if index % STATES_BETWEEN == 0 {
             watching.at(search.nodes.len() as u32, index);
         }
-        let Progress::GoesOn = search.expand(alloc, trial, bench, index as usize, most)? else {
+        let Progress::GoesOn = search.expand(task, bench, index as usize)? else {
             return Ok(Explored {
                 search,
                 progress: Progress::IsCut,
@@ -592,12 +519,17 @@ pub fn outcomes_watched<W: Watching>(
     ensures verdict { IfOk result (IsVerdict trial.now) }
     ensures err { IfErr result (IsRefusal trial.now) }
 {
+    let task = Task {
+        alloc,
+        trial: *trial,
+        most,
+    };
     let mut bench = Bench::new(alloc, trial)?;
-    let explored = explore(alloc, trial, &mut bench, most, watching)?;
+    let explored = explore(&task, &mut bench, watching)?;
     let Explored { search, progress } = explored;
     let Progress::GoesOn = progress else {
         return Ok(search.cut());
     };
-    let told = search.whole(alloc, trial, &mut bench)?;
+    let told = search.whole(&task, &mut bench)?;
     Ok(told)
 }

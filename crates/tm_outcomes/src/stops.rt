@@ -3,21 +3,17 @@
 //! [`take_up_stops`] is called for each state, whether it is an end or not, and keeps of each reason the schedule
 //! of the first state that shows it. A stop that the trial does not look for is not kept.
 
-ghost use Rattle.std.specs.Prelude.{◌≡◌, ◌≢◌, ◌↔◌, ◌<◌, All, Contains, IfErr, IfOk, IsTrue, List, OnOk, length};
-ghost use Rattle.std.specs.List.{AllPairs};
+ghost use Rattle.std.specs.Prelude.{◌≡◌, ◌↔◌, ◌<◌, Contains, IsTrue, OnOk};
 ghost use Rattle.tm_core.specs.Theorem.{StandsFor};
-ghost use Rattle.tm_model.specs.declared.outcome.Pick.{Pick};
 ghost use Rattle.tm_rule.specs.declared.kinds.Stop.{Stop};
-ghost use Rattle.tm_outcomes.specs.Nodes.{IsTree, HaveSchedules, schedule_at};
-ghost use Rattle.tm_outcomes.specs.Places.{IsAt};
+ghost use Rattle.tm_outcomes.specs.Nodes.{IsNodeState};
 ghost use Rattle.tm_outcomes.specs.Schedules.{Situation};
 ghost use Rattle.tm_outcomes.specs.Searching.{AreStops};
 ghost use Rattle.tm_outcomes.specs.Verdicts.{IsStopTold, StopsBy};
 
-use crate::nodes::{Node, schedule_of};
-use crate::place::Place;
-use crate::trial::Trial;
-use std::alloc::{AllocError, Global};
+use crate::nodes::{NodeState, schedule_of};
+use crate::task::Task;
+use std::alloc::AllocError;
 use tm_model::Pick;
 use tm_rule::Stop;
 
@@ -50,57 +46,46 @@ fn is_same(one: Stop, other: Stop) -> bool
 
 /// Takes up the stops of the state at a node that are looked for, where they were not found before.
 pub fn take_up_stops(
-    alloc: Global,
-    trial: &Trial<'_>,
-    nodes: &[Node],
-    index: usize,
-    here: &Place,
+    task: &Task<'_>,
+    at: &NodeState<'_>,
     stops: &mut Vec<ReachedStop>,
 ) -> Result<(), AllocError>
-    requires within { index < length nodes.now }
-    requires tree { HaveSchedules trial.now nodes.now }
-    requires here { (schedules : List (List Pick)) → IsTree trial.now nodes.now schedules →
-        IsAt trial.now here.now (schedule_at schedules index) }
-    requires stops { AreStops trial.now stops.old.items }
-    ensures stops { OnOk result (AreStops trial.now stops.new.items) }
+    requires at { IsNodeState task.now.trial at.now }
+    requires stops { AreStops task.now.trial stops.old.items }
+    ensures stops { OnOk result (AreStops task.now.trial stops.new.items) }
     ensures kept { OnOk result ((why : Stop) → IsStopTold stops.old.items why → IsStopTold stops.new.items why) }
-    ensures found { OnOk result ((why : Stop) → Contains trial.now.stops.now why → (now : Situation) →
-        StandsFor here.now.machine now.state now.doomed → StopsBy now.state why → IsStopTold stops.new.items why) }
+    ensures found { OnOk result ((why : Stop) → Contains task.now.trial.stops.now why → (now : Situation) →
+        StandsFor at.now.place.now.machine now.state now.doomed → StopsBy now.state why →
+        IsStopTold stops.new.items why) }
 {
-    for why in trial.stops {
-        take_up_stop(alloc, trial, nodes, index, here, stops, *why)?;
+    for why in task.trial.stops {
+        take_up_stop(task, at, stops, *why)?;
     }
     Ok(())
 }
 
 // Takes up this one of them.
 fn take_up_stop(
-    alloc: Global,
-    trial: &Trial<'_>,
-    nodes: &[Node],
-    index: usize,
-    here: &Place,
+    task: &Task<'_>,
+    at: &NodeState<'_>,
     stops: &mut Vec<ReachedStop>,
     why: Stop,
 ) -> Result<(), AllocError>
-    requires asked { Contains trial.now.stops.now why }
-    requires within { index < length nodes.now }
-    requires tree { HaveSchedules trial.now nodes.now }
-    requires here { (schedules : List (List Pick)) → IsTree trial.now nodes.now schedules →
-        IsAt trial.now here.now (schedule_at schedules index) }
-    requires stops { AreStops trial.now stops.old.items }
-    ensures stops { OnOk result (AreStops trial.now stops.new.items) }
+    requires asked { Contains task.now.trial.stops.now why }
+    requires at { IsNodeState task.now.trial at.now }
+    requires stops { AreStops task.now.trial stops.old.items }
+    ensures stops { OnOk result (AreStops task.now.trial stops.new.items) }
     ensures kept { OnOk result ((other : Stop) → IsStopTold stops.old.items other → IsStopTold stops.new.items other) }
-    ensures found { OnOk result ((now : Situation) → StandsFor here.now.machine now.state now.doomed →
+    ensures found { OnOk result ((now : Situation) → StandsFor at.now.place.now.machine now.state now.doomed →
         StopsBy now.state why → IsStopTold stops.new.items why) }
 {
-    if !here.stops_by(why) {
+    if !at.place.stops_by(why) {
         return Ok(());
     }
     if is_told(stops.as_slice(), why) {
         return Ok(());
     }
-    let schedule = schedule_of(alloc, nodes, index)?;
+    let schedule = schedule_of(task.alloc, at.nodes, at.index)?;
     stops.push(ReachedStop { why, schedule })?;
     Ok(())
 }

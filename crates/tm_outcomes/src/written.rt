@@ -10,7 +10,7 @@ ghost use Rattle.tm_core.specs.Theorem.{StandsFor, machine_setting, view_at};
 ghost use Rattle.tm_model.specs.Access.{loaded_addresses};
 ghost use Rattle.tm_outcomes.specs.Places.{is_open};
 ghost use Rattle.tm_outcomes.specs.Schedules.{Situation};
-ghost use Rattle.tm_outcomes.specs.Written.{HasMore, StoresOn};
+ghost use Rattle.tm_outcomes.specs.Written.{HasMore, KeepsNoted, StoresOn};
 
 use crate::trial::Trial;
 use ia_addr::Access;
@@ -50,10 +50,10 @@ impl Written {
     }
 
     /// Takes up the lines that the next step of a core can store to, before it is made.
+    #[tactic(auto, using(crate::proofs::Noting::noting))]
     pub fn note(&mut self, alloc: Global, machine: &Machine, core: u8) -> Result<(), AllocError>
         requires { core < length machine.now.views }
-        ensures opening { self.new.opening ≡ self.old.opening }
-        ensures kept { (line : ℕ) → Contains self.old.lines.items line → Contains self.new.lines.items line }
+        ensures keeps { KeepsNoted self.old self.new }
         ensures grown { OnOk result (HasMore self.old.lines.items self.new.lines.items) }
         ensures noted { OnOk result ((now : Situation) → StandsFor machine.now now.state now.doomed →
             StoresOn (machine_setting machine.now) self.new.lines.items now core) }
@@ -66,15 +66,16 @@ impl Written {
     }
 
     // The lines that a core's open transaction has stored to, all of which a commit writes.
+    #[tactic(auto, using(crate::proofs::Noting::noting))]
     fn add_written(&mut self, alloc: Global, machine: &Machine, core: u8) -> Result<(), AllocError>
         requires core { core < length machine.now.views }
         requires open { is_open (view_at machine.now core).mode ≡ true }
-        ensures opening { self.new.opening ≡ self.old.opening }
-        ensures kept { (line : ℕ) → Contains self.old.lines.items line → Contains self.new.lines.items line }
+        ensures keeps { KeepsNoted self.old self.new }
         ensures grown { OnOk result (HasMore self.old.lines.items self.new.lines.items) }
         ensures noted { OnOk result ((now : Situation) → StandsFor machine.now now.state now.doomed →
             StoresOn (machine_setting machine.now) self.new.lines.items now core) }
     {
+        machine.nothing_pending();
         let Ok(counts) = machine.counts(core) else {
             unreachable!();
         };
@@ -90,26 +91,27 @@ impl Written {
     }
 
     // The lines that an instruction outside of transactions stores to.
+    #[tactic(auto, using(crate::proofs::Noting::noting))]
     fn add_reached(&mut self, machine: &Machine, core: u8) -> Result<(), AllocError>
         requires core { core < length machine.now.views }
         requires closed { is_open (view_at machine.now core).mode ≡ false }
-        ensures opening { self.new.opening ≡ self.old.opening }
-        ensures kept { (line : ℕ) → Contains self.old.lines.items line → Contains self.new.lines.items line }
+        ensures keeps { KeepsNoted self.old self.new }
         ensures grown { OnOk result (HasMore self.old.lines.items self.new.lines.items) }
         ensures noted { OnOk result ((now : Situation) → StandsFor machine.now now.state now.doomed →
             StoresOn (machine_setting machine.now) self.new.lines.items now core) }
     {
-        let Ok(reach) = machine.reach(core) else {
+        machine.nothing_pending();
+        let Ok(preview) = machine.preview(core) else {
             unreachable!();
         };
-        self.add_access(reach.store)?;
+        self.add_access(preview.reach.store)?;
         Ok(())
     }
 
     // The lines of an access.
+    #[tactic(auto, using(crate::proofs::Noting::noting))]
     fn add_access(&mut self, access: Option<Access>) -> Result<(), AllocError>
-        ensures opening { self.new.opening ≡ self.old.opening }
-        ensures kept { (line : ℕ) → Contains self.old.lines.items line → Contains self.new.lines.items line }
+        ensures keeps { KeepsNoted self.old self.new }
         ensures grown { OnOk result (HasMore self.old.lines.items self.new.lines.items) }
         ensures all { OnOk result ((address : ℕ) → Contains (loaded_addresses access) address →
             Contains self.new.lines.items (address / 64)) }
@@ -125,9 +127,9 @@ impl Written {
     }
 
     // Each of these lines.
+    #[tactic(auto, using(crate::proofs::Noting::noting))]
     fn add_all(&mut self, lines: &[u32]) -> Result<(), AllocError>
-        ensures opening { self.new.opening ≡ self.old.opening }
-        ensures kept { (line : ℕ) → Contains self.old.lines.items line → Contains self.new.lines.items line }
+        ensures keeps { KeepsNoted self.old self.new }
         ensures grown { OnOk result (HasMore self.old.lines.items self.new.lines.items) }
         ensures all { OnOk result ((line : ℕ) → Contains lines.now line → Contains self.new.lines.items line) }
     {
@@ -139,8 +141,7 @@ impl Written {
 
     // A line, where it is not there.
     fn add(&mut self, line: u32) -> Result<(), AllocError>
-        ensures opening { self.new.opening ≡ self.old.opening }
-        ensures kept { (other : ℕ) → Contains self.old.lines.items other → Contains self.new.lines.items other }
+        ensures keeps { KeepsNoted self.old self.new }
         ensures grown { OnOk result (HasMore self.old.lines.items self.new.lines.items) }
         ensures here { OnOk result (Contains self.new.lines.items line) }
     {

@@ -12,9 +12,8 @@ returns c = (
   c.in_ok-made.made.items,
   c.in_ok-extend_from_slice.ensures.items
       ∙ ap (λ (s : List Pick). c.args.steps.now.items ++ s) c.as_slice.ensures.value,
-  made_once c.args.trial.now c.args.here.now c.advance.new.self c.args.noted.now c.note.new.self c.args.pick
+  made_once c.args.task.now.trial c.args.here.now c.advance.new.self c.args.noted.now c.note.new.self c.args.pick
       c.in_ok-made.made.items
-      c.requires.at.0 c.requires.pick c.requires.place c.requires.at.1 c.in_ok-note.ensures.opening
-      c.in_ok-note.ensures.kept
+      c.requires.at.0 c.requires.pick c.requires.place c.requires.at.1 c.in_ok-note.ensures.keeps
       c.in_ok-note.ensures.noted c.in_ok-made.ensures,
 )

@@ -8,8 +8,9 @@ pub loop-pick-init : goal.loop-pick-init
 loop-pick-init c =
     let place = c.args.here.now in
     let written = c.args.noted.now in
-    subst (λ (s : List Pick). IsMade c.args.trial.now place place written written s) (sym c.new-steps.ensures.items)
-    (made_none c.args.trial.now place written c.requires.place)
+    subst (λ (s : List Pick). IsMade c.args.task.now.trial place place written written s)
+    (sym c.new-steps.ensures.items)
+    (made_none c.args.task.now.trial place written c.requires.place)
 
 pub make-requires-clause-place : goal.make-requires-clause-place
 make-requires-clause-place c = c.loop-pick.invariant.place
@@ -22,6 +23,6 @@ make-requires-clause-at c =
 pub loop-pick-preserved : goal.loop-pick-preserved
 loop-pick-preserved c =
     let added = c.in_ok-make.ensures in
-    made_then c.args.trial.now c.args.here.now c.loop-pick.here c.make.new.here c.args.noted.now c.loop-pick.noted
+    made_then c.args.task.now.trial c.args.here.now c.loop-pick.here c.make.new.here c.args.noted.now c.loop-pick.noted
     c.make.new.noted
     c.loop-pick.steps.items added.0 c.make.new.steps.items added.1 c.loop-pick.invariant added.2

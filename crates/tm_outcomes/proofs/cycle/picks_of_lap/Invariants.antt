@@ -3,4 +3,4 @@ use Rattle.tm_outcomes.specs.Nodes.{IsUsualPick}
 use Rattle.tm_outcomes.proofs.cycle.picks_of_lap.Given as goal
 
 abbrev pub invariant-loop-link : goal.invariant-loop-link
-invariant-loop-link l = All (IsUsualPick l.trial) l.picks.items
+invariant-loop-link l = All (IsUsualPick l.task.trial) l.picks.items

@@ -8,8 +8,8 @@ use Rattle.tm_outcomes.proofs.cycle.round_of.Goals as goal
 
 pub make_all-requires-clause-at : goal.make_all-requires-clause-at
 make_all-requires-clause-at c =
-    let schedules = c.requires.tree.0 in
-    (schedule_at schedules c.args.first, c.in_ok-place_of-2.ensures.ok schedules c.requires.tree.1)
+    let schedules = c.requires.nodes.tree.0 in
+    (schedule_at schedules c.args.first, c.in_ok-place_of-2.ensures.ok schedules c.requires.nodes.tree.1)
 
 pub is_alike-requires-clause-memory : goal.is_alike-requires-clause-memory
 is_alike-requires-clause-memory c = c.in_ok-steps.ensures.place.memory
@@ -17,14 +17,14 @@ is_alike-requires-clause-memory c = c.in_ok-steps.ensures.place.memory
 pub is_alike-requires-clause-others : goal.is_alike-requires-clause-others
 is_alike-requires-clause-others c =
     let made = c.in_ok-steps.ensures in
-    (place_more c.args.trial.now c.args.bench.now.noted c.make_all.new.noted made.opening made.kept c.place_of.new.place
+    (place_more c.args.task.now.trial c.args.bench.now.noted c.make_all.new.noted made.keeps c.place_of.new.place
     c.in_ok-place_of.ensures.place).memory
 
 pub returns-clause-ok : goal.returns-clause-ok
 returns-clause-ok c = λ schedules tree.
     let made = c.in_ok-steps.ensures in
     let other = c.place_of.new.place in
-    goes_round c.args.trial.now schedules c.args.first c.make_all.new.here other c.in_ok-steps.steps.items
+    goes_round c.args.task.now.trial schedules c.args.first c.make_all.new.here other c.in_ok-steps.steps.items
     (c.in_ok-place_of.ensures.ok schedules tree)
     (made.at (schedule_at schedules c.args.first) (c.in_ok-place_of-2.ensures.ok schedules tree))
     made.are_picks made.usual

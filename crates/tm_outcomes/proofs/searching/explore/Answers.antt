@@ -6,7 +6,7 @@ use Rattle.tm_outcomes.proofs.searching.explore.Goals as goal
 
 pub loop-index-init : goal.loop-index-init
 loop-index-init g c =
-    let opened = c.in_ok-search.ensures.done c.args.trial.now in
+    let opened = c.in_ok-search.ensures.done c.args.task.now.trial in
     let nodes = c.in_ok-search.search.nodes.items in
     let one : length nodes ≡ 1 = (let some = opened.1.tree.some in let few = opened.1.few in omega arith) in
     record {
@@ -21,21 +21,23 @@ loop-index-init g c =
           few = let few = opened.1.few in let some = c.requires.some in omega arith;
         },
       );
-      bench =
-          record {
-            start = c.requires.start;
-            here = c.requires.here;
-            at = subst (λ (at : Option ℕ). IsAtNode c.args.trial.now c.in_ok-search.search.nodes.items
-                c.args.bench.now.start at) (sym c.requires.at) tt;
-            other = c.requires.other;
-            written = written_first c.args.trial.now c.in_ok-search.search.nodes.items c.args.bench.now.noted opened.0
-                c.requires.here.opening opened.1.tree one;
-          };
-      kept = record {
-        apart =
-            apart_first c.args.trial.now nodes c.args.bench.now.noted opened.0 c.args.bench.now.here opened.1.tree one
-            c.requires.begins (c.in_ok-search.ensures.digest ∙ c.digest.ensures) c.in_ok-search.ensures.older;
-        newest = c.in_ok-search.ensures.newest;
+      has_bench = record {
+        bench = record {
+          start = c.requires.bench.start;
+          here = c.requires.bench.here;
+          at = subst (λ (at : Option ℕ). IsAtNode c.args.task.now.trial nodes c.args.bench.now.start at)
+              (sym c.requires.bench.at) tt;
+          other = c.requires.bench.other;
+          written = written_first c.args.task.now.trial nodes c.args.bench.now.noted opened.0
+              c.requires.bench.here.opening opened.1.tree one;
+        };
+        kept = record {
+          apart =
+              apart_first c.args.task.now.trial nodes c.args.bench.now.noted opened.0 c.args.bench.now.here
+              opened.1.tree one
+              c.requires.bench.begins (c.in_ok-search.ensures.digest ∙ c.digest.ensures) c.in_ok-search.ensures.older;
+          newest = c.in_ok-search.ensures.newest;
+        };
       };
     }
 

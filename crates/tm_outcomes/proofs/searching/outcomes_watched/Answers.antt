@@ -19,18 +19,19 @@ returns-in_default-clause-verdict g c =
     let cut = c.in_ok-explored.ensures.cut c.in_default.is in
     let explored = c.in_ok-explored.ensures in
     is_cut_verdict c.args.trial.now c.args.most c.in_ok-explored.explored.search c.cut.result cut.0 cut.1 c.cut.ensures
-    c.explore.new.bench.noted explored.bench.written.schedules explored.bench.written.tree explored.kept.apart
+    c.explore.new.bench.noted explored.has_bench.bench.written.schedules explored.has_bench.bench.written.tree
+    explored.has_bench.kept.apart
 
-pub whole-requires-clause-few : goal.whole-requires-clause-few
-whole-requires-clause-few g c =
+pub whole-requires-clause-nodes : goal.whole-requires-clause-nodes
+whole-requires-clause-nodes g c =
     let over = c.in_ok-explored.ensures.whole c.in-GoesOn.is in
-    let few = over.searching.few in
-    omega arith
+    record {
+      few = (let few = over.searching.few in omega arith);
+      tree = (over.schedules, over.searching.tree);
+    }
 
-pub whole-requires-clause-tree : goal.whole-requires-clause-tree
-whole-requires-clause-tree g c =
-    let over = c.in_ok-explored.ensures.whole c.in-GoesOn.is in
-    (over.schedules, over.searching.tree)
+pub whole-requires-clause-bench : goal.whole-requires-clause-bench
+whole-requires-clause-bench g c = c.in_ok-explored.ensures.has_bench.bench
 
 pub whole-requires-clause-links : goal.whole-requires-clause-links
 whole-requires-clause-links g c =
@@ -63,4 +64,5 @@ pub returns-clause-verdict : goal.returns-clause-verdict
 returns-clause-verdict g c =
     let over = c.in_ok-explored.ensures.whole c.in-GoesOn.is in
     is_verdict c.args.trial.now c.args.most over.done c.in_ok-explored.explored.search over.schedules c.in_ok-told.told
-    over.searching over.whole c.in_ok-told.ensures.ok c.explore.new.bench.noted c.in_ok-explored.ensures.kept.apart
+    over.searching over.whole c.in_ok-told.ensures.ok c.explore.new.bench.noted
+    c.in_ok-explored.ensures.has_bench.kept.apart

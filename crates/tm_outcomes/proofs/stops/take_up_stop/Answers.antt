@@ -13,6 +13,9 @@ use Rattle.tm_outcomes.specs.declared.stops.ReachedStop.{ReachedStop}
 use Rattle.tm_outcomes.proofs.Stopping.{told_more}
 use Rattle.tm_outcomes.proofs.stops.take_up_stop.Goals as goal
 
+pub schedule_of-requires-clause-tree : goal.schedule_of-requires-clause-tree
+schedule_of-requires-clause-tree c = (c.args.task.now.trial, c.requires.at.tree)
+
 pub returns-then-not-stops_by-clause-found : goal.returns-then-not-stops_by-clause-found
 returns-then-not-stops_by-clause-found c = λ now stands stopped.
     absurd (false≢true (sym c.if-not-stops_by.true ∙ (c.stops_by.ensures now stands).1 stopped))
@@ -24,13 +27,13 @@ returns-then-is_told-clause-found c = λ now stands stopped.
 
 pub returns-clause-stops : goal.returns-clause-stops
 returns-clause-stops c =
-    let trial = c.args.trial.now in
-    let schedules = c.requires.tree.0 in
-    let tree = c.requires.tree.1 in
-    let at = c.requires.here schedules tree in
+    let trial = c.args.task.now.trial in
+    let schedules = c.requires.at.tree.0 in
+    let tree = c.requires.at.tree.1 in
+    let at = c.requires.at.here schedules tree in
     let before = c.args.stops.now.items in
     let told : ReachedStop = record { why = c.args.why; schedule = c.in_ok-schedule.schedule } in
-    let same : c.in_ok-schedule.schedule.items ≡ schedule_at schedules c.args.index =
+    let same : c.in_ok-schedule.schedule.items ≡ schedule_at schedules c.args.at.now.index =
     c.in_ok-schedule.ensures trial schedules tree in
     let is : IsStop trial told = record {
       asked = c.requires.asked;
@@ -39,11 +42,12 @@ returns-clause-stops c =
         allowed = subst (λ (s : List Pick). AreAllowed trial s) (sym same)
             (All-weaker (IsPickOf trial) (λ (pick : Pick). IsAllowed trial.events pick.event)
             (λ (pick : Pick) is. is.allowed)
-            (schedule_at schedules c.args.index) (tree.picks c.args.index c.requires.within));
+            (schedule_at schedules c.args.at.now.index) (tree.picks c.args.at.now.index c.requires.at.within));
         is_run = subst (λ (s : List Pick). after_schedule (trial_setting trial) (trial_opening trial) s ≡ Some at.now)
             (sym same) at.is_run;
       };
-      sparing = subst (λ (s : List Pick). IsSparing trial s) (sym same) (tree.runs c.args.index c.requires.within).3;
+      sparing = subst (λ (s : List Pick). IsSparing trial s) (sym same)
+          (tree.runs c.args.at.now.index c.requires.at.within).3;
       stops = (c.stops_by.ensures at.now at.stands).0 c.if-not-stops_by.false;
     } in
     subst (λ (ss : List ReachedStop). AreStops trial ss) (sym c.in_ok-push.ensures.items)

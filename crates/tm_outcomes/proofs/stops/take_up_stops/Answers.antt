@@ -6,7 +6,7 @@ use Rattle.tm_outcomes.proofs.stops.take_up_stops.Goals as goal
 pub loop-why-preserved : goal.loop-why-preserved
 loop-why-preserved c =
     let so_far = c.loop-why.invariant in
-    let stops = c.args.trial.now.stops.now in
+    let stops = c.args.task.now.trial.stops.now in
     record {
       stops = c.in_ok-take_up_stop.ensures.stops;
       kept = λ why told. c.in_ok-take_up_stop.ensures.kept why (so_far.kept why told);

@@ -9,9 +9,9 @@ use Rattle.tm_outcomes.proofs.stops.take_up_stops.Given as goal
 -- those so far are found, and none is lost
 abbrev pub invariant-loop-why : goal.invariant-loop-why
 invariant-loop-why l = record {
-  stops : AreStops l.trial l.stops.items;
+  stops : AreStops l.task.trial l.stops.items;
   kept : (why : Stop) → IsStopTold l.initial.stops.items why → IsStopTold l.stops.items why;
-  found : (index : ℕ) (why : Stop) → index < l.why-index → get_or l.trial.stops.now index why ≡ why →
-      (now : Situation) → StandsFor l.here.machine now.state now.doomed → StopsBy now.state why →
+  found : (index : ℕ) (why : Stop) → index < l.why-index → get_or l.task.trial.stops.now index why ≡ why →
+      (now : Situation) → StandsFor l.at.place.now.machine now.state now.doomed → StopsBy now.state why →
       IsStopTold l.stops.items why;
 }

@@ -16,6 +16,9 @@ use Rattle.tm_outcomes.specs.declared.violations.Violation.{Violation}
 use Rattle.tm_outcomes.proofs.Violating.{told_more}
 use Rattle.tm_outcomes.proofs.violations.take_up_check.Goals as goal
 
+pub schedule_of-requires-clause-tree : goal.schedule_of-requires-clause-tree
+schedule_of-requires-clause-tree c = (c.args.task.now.trial, c.requires.at.tree)
+
 pub returns-then-is_told-clause-found : goal.returns-then-is_told-clause-found
 returns-then-is_told-clause-found c = λ what is now stands violates.
     subst (λ (vs : List Violation). IsViolationTold vs c.args.check) c.as_slice.ensures.value
@@ -25,17 +28,17 @@ pub returns-then-not-violates-clause-found : goal.returns-then-not-violates-clau
 returns-then-not-violates-clause-found c = λ what is now stands violates.
     absurd (false≢true (sym c.if-not-violates.true ∙ (c.violates.ensures now stands).1
     (subst (λ (k : Check). Violates (seen_at now.state) k)
-    (sym (get_or_from_slice_get c.args.trial.now.checks.now c.args.check what _ is)) violates)))
+    (sym (get_or_from_slice_get c.args.task.now.trial.checks.now c.args.check what _ is)) violates)))
 
 pub returns-clause-violations : goal.returns-clause-violations
 returns-clause-violations c =
-    let trial = c.args.trial.now in
-    let schedules = c.requires.tree.0 in
-    let tree = c.requires.tree.1 in
-    let at = c.requires.here schedules tree in
+    let trial = c.args.task.now.trial in
+    let schedules = c.requires.at.tree.0 in
+    let tree = c.requires.at.tree.1 in
+    let at = c.requires.at.here schedules tree in
     let before = c.args.violations.now.items in
     let told : Violation = record { check = c.args.check; schedule = c.in_ok-schedule.schedule } in
-    let same : c.in_ok-schedule.schedule.items ≡ schedule_at schedules c.args.index =
+    let same : c.in_ok-schedule.schedule.items ≡ schedule_at schedules c.args.at.now.index =
     c.in_ok-schedule.ensures trial schedules tree in
     let is : IsViolation trial told = record {
       check = _;
@@ -45,11 +48,12 @@ returns-clause-violations c =
         allowed = subst (λ (s : List Pick). AreAllowed trial s) (sym same)
             (All-weaker (IsPickOf trial) (λ (pick : Pick). IsAllowed trial.events pick.event)
             (λ (pick : Pick) is. is.allowed)
-            (schedule_at schedules c.args.index) (tree.picks c.args.index c.requires.within));
+            (schedule_at schedules c.args.at.now.index) (tree.picks c.args.at.now.index c.requires.at.within));
         is_run = subst (λ (s : List Pick). after_schedule (trial_setting trial) (trial_opening trial) s ≡ Some at.now)
             (sym same) at.is_run;
       };
-      sparing = subst (λ (s : List Pick). IsSparing trial s) (sym same) (tree.runs c.args.index c.requires.within).3;
+      sparing = subst (λ (s : List Pick). IsSparing trial s) (sym same)
+          (tree.runs c.args.at.now.index c.requires.at.within).3;
       has_ended = c.requires.ended at.now at.stands;
       violates = (c.violates.ensures at.now at.stands).0 c.if-not-violates.false;
     } in

@@ -8,7 +8,7 @@ use Rattle.tm_outcomes.proofs.violations.take_up_checks.Goals as goal
 pub loop-check-preserved : goal.loop-check-preserved
 loop-check-preserved c =
     let so_far = c.loop-check.invariant in
-    let checks = c.args.trial.now.checks.now in
+    let checks = c.args.task.now.trial.checks.now in
     record {
       end = so_far.end;
       violations = c.in_ok-take_up_check.ensures.violations;
@@ -27,5 +27,5 @@ loop-check-preserved c =
 pub returns-clause-found : goal.returns-clause-found
 returns-clause-found c = λ check what is now stands violates.
     c.loop-check.invariant.found check what
-    (let within = slice_get_within c.args.trial.now.checks.now check what is in
+    (let within = slice_get_within c.args.task.now.trial.checks.now check what is in
     let end = c.loop-check.invariant.end in omega arith) is now stands violates

@@ -12,13 +12,13 @@ nodes-init c = record {
   bench = c.requires.bench;
   here = refl;
   noted = refl;
-  looking = looks c.args.trial.now c.args.nodes.now c.args.self.now.noted c.args.self.now.here c.args.newest
+  looking = looks c.args.task.now.trial c.args.nodes.now c.args.self.now.noted c.args.self.now.here c.args.newest
       c.requires.newest;
 }
 
 pub nodes-smaller : goal.nodes-smaller
 nodes-smaller c =
-    let trial = c.args.trial.now in
+    let trial = c.args.task.now.trial in
     let nodes : List Node = c.args.nodes.now in
     let before = c.args.self.now in
     let index = c.in-Some.index in
@@ -36,7 +36,7 @@ nodes-smaller c =
 
 pub nodes-preserved : goal.nodes-preserved
 nodes-preserved c =
-    let trial = c.args.trial.now in
+    let trial = c.args.task.now.trial in
     let nodes : List Node = c.args.nodes.now in
     let before = c.args.self.now in
     let index = c.in-Some.index in
@@ -57,7 +57,7 @@ nodes-preserved c =
 
 pub returns-clause-none : goal.returns-clause-none
 returns-clause-none c = λ _.
-    let trial = c.args.trial.now in
+    let trial = c.args.task.now.trial in
     let nodes : List Node = c.args.nodes.now in
     let before = c.args.self.now in
     all_others trial nodes before.noted before.here c.requires.apart

@@ -20,18 +20,19 @@ returns-then-copy-clause-bench c =
     record {
       start = bench.start;
       at = bench.at;
-      here = c.copy.ensures.place c.args.trial.now bench.here bench.start;
+      here = c.copy.ensures.place c.args.task.now.trial bench.here bench.start;
       other = bench.other;
       written = bench.written;
     }
 
 pub returns-then-copy-clause-here : goal.returns-then-copy-clause-here
 returns-then-copy-clause-here c = λ schedules tree.
-    c.copy.ensures.at c.if-copy.true c.args.trial.now (schedule_at schedules c.args.index)
+    c.copy.ensures.at c.if-copy.true c.args.task.now.trial (schedule_at schedules c.args.index)
     (c.requires.start schedules tree)
 
 pub place_of-requires-clause-place : goal.place_of-requires-clause-place
-place_of-requires-clause-place c = c.copy.ensures.place c.args.trial.now c.requires.bench.here c.requires.bench.start
+place_of-requires-clause-place c =
+    c.copy.ensures.place c.args.task.now.trial c.requires.bench.here c.requires.bench.start
 
 pub returns-clause-bench : goal.returns-clause-bench
 returns-clause-bench c =

@@ -11,12 +11,23 @@ use Rattle.tm_outcomes.specs.Schedules.{after_schedule}
 use Rattle.tm_outcomes.proofs.Leads.{leads_stands}
 use Rattle.tm_outcomes.proofs.findings.Findings.show.Goals as goal
 
+pub take_up_stops-requires-clause-at : goal.take_up_stops-requires-clause-at
+take_up_stops-requires-clause-at c =
+    record { within = c.requires.within; tree = c.requires.nodes.tree; here = c.in_ok-come_to.ensures.start }
+
+pub take_up_checks-requires-clause-at : goal.take_up_checks-requires-clause-at
+take_up_checks-requires-clause-at c =
+    record { within = c.requires.within; tree = c.requires.nodes.tree; here = c.in_ok-come_to.ensures.start }
+
+pub schedule_of-requires-clause-tree : goal.schedule_of-requires-clause-tree
+schedule_of-requires-clause-tree c = (c.args.task.now.trial, c.requires.nodes.tree)
+
 pub take_up-requires-clause-outcome : goal.take_up-requires-clause-outcome
 take_up-requires-clause-outcome c =
-    let trial = c.args.trial.now in
+    let trial = c.args.task.now.trial in
     let place = c.come_to.new.self.start in
-    let schedules = c.requires.tree.0 in
-    let tree = c.requires.tree.1 in
+    let schedules = c.requires.nodes.tree.0 in
+    let tree = c.requires.nodes.tree.1 in
     let at : IsAt trial place (schedule_at schedules c.args.index) = c.in_ok-come_to.ensures.start schedules tree in
     let same : c.in_ok-schedule.schedule.items ≡ schedule_at schedules c.args.index =
     c.in_ok-schedule.ensures trial schedules tree in
@@ -34,14 +45,14 @@ take_up-requires-clause-outcome c =
 
 pub take_up-requires-clause-sparing : goal.take_up-requires-clause-sparing
 take_up-requires-clause-sparing c =
-    let trial = c.args.trial.now in
-    let tree = c.requires.tree.1 in
-    subst (λ (s : List Pick). IsSparing trial s) (sym (c.in_ok-schedule.ensures trial c.requires.tree.0 tree))
+    let trial = c.args.task.now.trial in
+    let tree = c.requires.nodes.tree.1 in
+    subst (λ (s : List Pick). IsSparing trial s) (sym (c.in_ok-schedule.ensures trial c.requires.nodes.tree.0 tree))
     (tree.runs c.args.index c.requires.within).3
 
 pub returns-then-not-has_ended-clause-shows : goal.returns-then-not-has_ended-clause-shows
 returns-then-not-has_ended-clause-shows c = λ schedules tree.
-    let trial = c.args.trial.now in
+    let trial = c.args.task.now.trial in
     let place = c.come_to.new.self.start in
     let at : IsAt trial place (schedule_at schedules c.args.index) = c.in_ok-come_to.ensures.start schedules tree in
     record {
@@ -71,7 +82,7 @@ take_up_checks-requires-clause-ended c = λ now stands. (c.has_ended.ensures now
 
 pub returns-clause-shows : goal.returns-clause-shows
 returns-clause-shows c = λ schedules tree.
-    let trial = c.args.trial.now in
+    let trial = c.args.task.now.trial in
     let index = c.args.index in
     let place = c.come_to.new.self.start in
     let before = c.args.self.now.ends.items in

@@ -1,8 +1,9 @@
-use Rattle.std.proofs.Common.{◌≡◌, ◌⊎◌, inl, inr, ℕ, Bool, true, false, List, length, refl, sym, ap, ◌∙◌, subst}
+use Rattle.std.proofs.Common.{◌≡◌, ◌⊎◌, inl, inr, ℕ, Bool, true, false, List, [], length, refl, sym, ap, ◌∙◌, subst}
 use Rattle.std.specs.Prelude.{slice_index_or}
 use Rattle.tm_core.specs.Reopening.{IsSameElsewhere}
 use Rattle.tm_core.specs.Theorem.{no_regs}
 use Rattle.tm_model.specs.Shown.{View, view_outside}
+use Rattle.tm_model.specs.State.{Pending}
 use Rattle.tm_model.specs.declared.outcome.CoreState.TheVariants.{Running}
 use Rattle.tm_outcomes.proofs.Stored.{then_same, turned}
 use Rattle.tm_outcomes.proofs.place.Place.copy.Goals as goal
@@ -57,6 +58,8 @@ returns-clause-alike c = λ copied.
       memory = c.copy_lines.ensures.memory copied;
       count = ap (λ (vs : List View). length vs) views;
       each = λ core below. ap (λ (vs : List View). slice_index_or vs core (view_outside Running no_regs)) views;
+      pending = λ core below.
+          ap (λ (left : List Pending). slice_index_or left core []) (c.copy_lines.ensures.pending copied);
     }
 
 pub returns-clause-stays : goal.returns-clause-stays

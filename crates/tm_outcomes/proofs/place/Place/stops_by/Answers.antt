@@ -1,6 +1,7 @@
 use Rattle.std.proofs.Common.{◌<◌, refl, arith}
 use Rattle.std.proofs.lemmas.Bool.{false≢true}
 use Rattle.tm_core.specs.Theorem.{machine_setting, view_at}
+use Rattle.tm_model.specs.State.{seen_by}
 use Rattle.tm_outcomes.proofs.Shown.{by_stop, stopped_by}
 use Rattle.tm_outcomes.proofs.place.Place.stops_by.Goals as goal
 
@@ -12,7 +13,7 @@ returns-then-has_stopped_by c = λ now stands.
       λ _. (
         core,
         (let e = stands.same_count in let f = c.cores-core-end.ensures.count in omega arith),
-        stopped_by (machine_setting machine) now.state.memory (now.state.cores core) (now.doomed core)
+        stopped_by (machine_setting machine) (seen_by now.state core) (now.state.cores core) (now.doomed core)
             (view_at machine core) c.args.why
             (stands.each core (let f = c.cores-core-end.ensures.count in omega arith))
             (c.has_stopped_by.ensures.0 c.if-has_stopped_by.true),
@@ -30,7 +31,7 @@ returns c = λ now stands.
           (let b = stops.1 in let e = stands.same_count in let f = c.cores-core-end.ensures.count in
           let g = c.loop-core-test.false in omega arith) in
           absurd (c.loop-core.invariant core within
-          (by_stop (machine_setting machine) now.state.memory (now.state.cores core) (now.doomed core)
+          (by_stop (machine_setting machine) (seen_by now.state core) (now.state.cores core) (now.doomed core)
           (view_at machine core) c.args.why
           (stands.each core (let b = stops.1 in let e = stands.same_count in omega arith)) stops.2)),
     )

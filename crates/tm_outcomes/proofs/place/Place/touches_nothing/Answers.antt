@@ -1,4 +1,4 @@
-use Rattle.std.proofs.Common.{◌≡◌, true, false, ℕ, Option, None, sym, ap, ◌∙◌, subst, arith}
+use Rattle.std.proofs.Common.{◌≡◌, true, false, ℕ, List, Option, None, sym, ap, ◌∙◌, subst, arith}
 use Rattle.std.specs.Prelude.{◌&&◌}
 use Rattle.ia_regs.specs.declared.Regs.{Regs}
 use Rattle.tm_core.specs.Theorem.{view_at}
@@ -6,7 +6,7 @@ use Rattle.tm_model.specs.Access.{loaded_addresses}
 use Rattle.tm_model.specs.Explained.{IsReachTold, addresses_stored_at}
 use Rattle.tm_model.specs.Owed.{owed_outcome}
 use Rattle.tm_model.specs.Setting.{Setting}
-use Rattle.tm_model.specs.State.{Closed, Core}
+use Rattle.tm_model.specs.State.{Closed, Core, seen_by}
 use Rattle.tm_outcomes.specs.Outcomes.{trial_setting}
 use Rattle.tm_outcomes.specs.Unseen.{are_none}
 use Rattle.tm_outcomes.proofs.Leads.{shows}
@@ -21,36 +21,37 @@ returns-then-not-loads_nothing c = λ now stands.
     let loads : are_none (setting.load_of base) ≡ false =
     subst (λ (regs : Regs). are_none (setting.load_of regs) ≡ false) c.in-Ok.ensures.shown
     (sym (c.loads_nothing.ensures trial.limits.read_lines trial.limits.write_lines) ∙ c.if-not-loads_nothing.true) in
-    sym (ap (λ t. t && are_none (addresses_stored_at setting now.state.memory (Closed base)
-    (owed_outcome setting now.state.memory (Closed base) None))) loads)
+    sym (ap (λ t. t && are_none (addresses_stored_at setting (seen_by now.state c.args.core) (Closed base)
+    (owed_outcome setting (seen_by now.state c.args.core) (Closed base) None))) loads)
 
 pub returns : goal.returns
 returns c = λ now stands.
     let trial = c.args.trial.now in
     let machine = c.args.self.now.machine in
     let core = c.args.core in
+    let seen : List ℕ = seen_by now.state core in
     let setting : Setting = trial_setting trial in
     let base : Regs = (view_at machine core).base in
     let loads : are_none (setting.load_of base) ≡ true =
     subst (λ (regs : Regs). are_none (setting.load_of regs) ≡ true) c.in-Ok.ensures.shown
     (sym (c.loads_nothing.ensures trial.limits.read_lines trial.limits.write_lines) ∙ c.if-not-loads_nothing.false) in
-    let closed = closed_shown setting now.state.memory (now.state.cores core) (now.doomed core) (view_at machine core)
+    let closed = closed_shown setting seen (now.state.cores core) (now.doomed core) (view_at machine core)
     (shows machine setting now c.requires.place.rules stands core
     (let count = c.requires.place.count in let is_core = c.requires.core in omega arith))
     c.requires.running in
-    let told : IsReachTold setting now.state.memory (now.state.cores core) (now.doomed core) c.in-Ok-reach.reach =
-    subst (λ (s : Setting). IsReachTold s now.state.memory (now.state.cores core) (now.doomed core) c.in-Ok-reach.reach)
+    let told : IsReachTold setting seen (now.state.cores core) (now.doomed core) c.in-Ok-preview.preview.reach =
+    subst (λ (s : Setting). IsReachTold s seen (now.state.cores core) (now.doomed core) c.in-Ok-preview.preview.reach)
     c.requires.place.rules
-    (c.in-Ok-reach.ensures.told now.state now.doomed stands) in
-    let stores : loaded_addresses c.in-Ok-reach.reach.store
-    ≡ addresses_stored_at setting now.state.memory (Closed base)
-    (owed_outcome setting now.state.memory (Closed base) None) =
+    (c.in-Ok-preview.ensures.reach now.state now.doomed stands) in
+    let stores : loaded_addresses c.in-Ok-preview.preview.reach.store
+    ≡ addresses_stored_at setting seen (Closed base)
+    (owed_outcome setting seen (Closed base) None) =
     told.stores
-    ∙ (ap (λ (x : Core). addresses_stored_at setting now.state.memory x
-    (owed_outcome setting now.state.memory x (now.doomed core))) closed.0
-    ∙ ap (λ (d : Option ℕ). addresses_stored_at setting now.state.memory (Closed base)
-    (owed_outcome setting now.state.memory (Closed base) d)) closed.1) in
+    ∙ (ap (λ (x : Core). addresses_stored_at setting seen x
+    (owed_outcome setting seen x (now.doomed core))) closed.0
+    ∙ ap (λ (d : Option ℕ). addresses_stored_at setting seen (Closed base)
+    (owed_outcome setting seen (Closed base) d)) closed.1) in
     c.is_absent.ensures
     ∙ (ap are_none stores
-    ∙ sym (ap (λ t. t && are_none (addresses_stored_at setting now.state.memory (Closed base)
-    (owed_outcome setting now.state.memory (Closed base) None))) loads))
+    ∙ sym (ap (λ t. t && are_none (addresses_stored_at setting seen (Closed base)
+    (owed_outcome setting seen (Closed base) None))) loads))

@@ -29,7 +29,7 @@ returns-clause-all c = λ address among.
           subst (λ n. Contains c.add-2.new.self.lines.items n) (omega arith) c.in_ok-add-2.ensures.here
       | inr same ↦
           subst (λ n. Contains c.add-2.new.self.lines.items n) (omega arith)
-          (c.in_ok-add-2.ensures.kept _ c.in_ok-add.ensures.here)
+          (c.in_ok-add-2.ensures.keeps.kept _ c.in_ok-add.ensures.here)
     ]
 
 pub returns-clause-grown : goal.returns-clause-grown
