@@ -1,4 +1,4 @@
--- What a step does to memory and to its core, as one record for all of them.
+-- What a step does to memory and to its core, as one record for all of them, where no store is pending.
 use Rattle.std.proofs.Common.{◌≡◌, ◌⊎◌, inl, inr, ℕ, suc, Bool, true, false, cond, eqb, List, [], Option, Some, None}
 use Rattle.std.proofs.Common.{refl, sym, ap, ◌∙◌, subst}
 use Rattle.std.specs.Prelude.{option_and_then}
@@ -10,8 +10,8 @@ use Rattle.tm_model.specs.Setting.{Setting, outside_at, value_at}
 use Rattle.tm_model.specs.State.{Closed, Core, Halted, Midway, Opened}
 use Rattle.tm_model.specs.Steps.{after_begin, after_commit, after_load, after_plain, after_step_of, after_stop}
 use Rattle.tm_model.specs.Steps.{registers_after_abort, stop_number}
-use Rattle.tm_core.specs.Types.{Aborted, AbortedBy, Begins, Begun, Committed, Goes, Idle, Inside, Loaded, Outcome}
-use Rattle.tm_core.specs.Types.{OutsideResult, Plain, Regs, Stop, Stopped, Stops}
+use Rattle.tm_core.specs.Types.{Aborted, AbortedBy, Begins, Begun, Committed, Drained, Goes, Idle, Inside, Loaded}
+use Rattle.tm_core.specs.Types.{Outcome, OutsideResult, Plain, Regs, Stop, Stopped, Stops}
 
 -- memory and a core
 abbrev pub pair : List ℕ → Core → List ℕ × Core
@@ -33,6 +33,7 @@ stays_in Idle = false
 stays_in Committed = false
 stays_in (Aborted status) = false
 stays_in (AbortedBy by status) = false
+stays_in Drained = true
 
 -- whether an outcome may be of a step that stores to memory
 abbrev pub stores_there : Outcome → Bool
@@ -45,6 +46,7 @@ stores_there (Stopped stop) = false
 stores_there Idle = false
 stores_there (Aborted status) = false
 stores_there (AbortedBy by status) = false
+stores_there Drained = false
 
 pub record BeginsHere (m : List ℕ) (core : Core) (o : Outcome) (m2 : List ℕ) (next : Core) : Type 0 where
   pub regs : Regs
@@ -200,6 +202,7 @@ moved k m (Closed s) Inside m2 next e = cc
 moved k m (Closed s) Committed m2 next e = cc
 moved k m (Closed s) (Aborted status) m2 next e = cc
 moved k m (Closed s) (AbortedBy by status) m2 next e = cc
+moved k m (Closed s) Drained m2 next e = cc
 moved k m (Midway s value) Plain m2 next e = out_plain k m (Midway s value) (k.outside s value) m2 next refl e
 moved k m (Midway s value) Loaded m2 next e = cc
 moved k m (Midway s value) (Stopped why) m2 next e = cc
@@ -209,6 +212,7 @@ moved k m (Midway s value) Inside m2 next e = cc
 moved k m (Midway s value) Committed m2 next e = cc
 moved k m (Midway s value) (Aborted status) m2 next e = cc
 moved k m (Midway s value) (AbortedBy by status) m2 next e = cc
+moved k m (Midway s value) Drained m2 next e = cc
 moved k m (Halted s stop) Plain m2 next e = cc
 moved k m (Halted s stop) Loaded m2 next e = cc
 moved k m (Halted s stop) (Stopped why) m2 next e = cc
@@ -218,6 +222,7 @@ moved k m (Halted s stop) Inside m2 next e = cc
 moved k m (Halted s stop) Committed m2 next e = cc
 moved k m (Halted s stop) (Aborted status) m2 next e = cc
 moved k m (Halted s stop) (AbortedBy by status) m2 next e = cc
+moved k m (Halted s stop) Drained m2 next e = cc
 moved k m (Opened s n) Plain m2 next e = cc
 moved k m (Opened s n) Loaded m2 next e = cc
 moved k m (Opened s n) (Stopped why) m2 next e = cc
@@ -229,3 +234,4 @@ moved k m (Opened s n) (Aborted status) m2 next e =
     same_memory k m (Opened s n) (Aborted status) m2 next (Closed (registers_after_abort k s status)) refl refl refl e
 moved k m (Opened s n) (AbortedBy by status) m2 next e = same_memory k m (Opened s n) (AbortedBy by status) m2 next
     (Closed (registers_after_abort k s status)) refl refl refl e
+moved k m (Opened s n) Drained m2 next e = cc

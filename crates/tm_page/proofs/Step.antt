@@ -16,17 +16,18 @@ use Rattle.tm_model.specs.Owed.{owed_after, owed_outcome, owed_under}
 use Rattle.tm_model.specs.Runs.{is_aborted_by}
 use Rattle.tm_model.specs.Setting.{Setting, outside_at}
 use Rattle.tm_model.specs.Shown.{View, buffer_of, view_inside, view_of}
-use Rattle.tm_model.specs.State.{Closed, Core, Halted, Midway, Opened, State}
-use Rattle.tm_model.specs.Steps.{after_step_of, state_with}
+use Rattle.tm_model.specs.State.{Closed, Core, Halted, Midway, Opened, State, seen_by, seen_memory}
 use Rattle.tm_model.specs.declared.explain.Reach.{Reach}
 use Rattle.tm_model.specs.declared.outcome.Event.TheVariants as event
 use Rattle.tm_core.specs.Seen.{byte_seen}
-use Rattle.tm_core.specs.Theorem.{ShownMachine, machine_setting, view_at}
-use Rattle.tm_core.specs.Types.{Aborted, AbortedBy, Begun, Committed, Condemned, Event, Idle, Inside, Loaded, Open}
-use Rattle.tm_core.specs.Types.{Outcome, Plain, Regs, Stopped}
+use Rattle.tm_core.specs.Theorem.{ShownMachine, machine_setting, seen_at, view_at}
+use Rattle.tm_core.specs.Types.{Aborted, AbortedBy, Begun, Committed, Condemned, Drained, Event, Idle, Inside, Loaded}
+use Rattle.tm_core.specs.Types.{Open, Outcome, Plain, Regs, Stopped}
 use Rattle.tm_core.proofs.ExplainLaws.{condemn}
 use Rattle.tm_core.proofs.Frame.{length-memory_after}
+use Rattle.tm_core.proofs.NonePending.{none_of, shows_alone}
 use Rattle.tm_model.proofs.Events.{abort_hits_nobody}
+use Rattle.tm_model.proofs.NonePending.{PlainStep, doom_alone, doom_is, none_after, owed_is, plain_step, seen_is}
 use Rattle.tm_page.proofs.Memory.{commit_kept, not_private, plain_stores, stays_there}
 use Rattle.tm_page.proofs.Moved.{BeginsHere, GoesOnHere, IsMoved, IsOut, is_opened, moved, stays_in, stores_there}
 use Rattle.tm_page.proofs.Others.{Fares, Tells, fares, other}
@@ -44,8 +45,9 @@ use Rattle.tm_page.specs.Types.{Hit, PageDelta, StoredByte}
 
 pub not_under : (event : Option Event) (k : Setting) (m : List ℕ) (core : Core) (doom : Option ℕ) (o : Outcome)
     → is_aborted_by o ≡ false →
-    o ≡ owed_under event k m core doom → o ≡ owed_outcome k m core doom
+    o ≡ owed_under event k m [] core doom → o ≡ owed_outcome k m core doom
 not_under None k m core doom o free e = e
+not_under (Some event.Drain) k m core doom o free e = e
 not_under (Some (event.Abort by)) k m (Closed s) doom o free e = e
 not_under (Some (event.Abort by)) k m (Midway s value) doom o free e = e
 not_under (Some (event.Abort by)) k m (Halted s stop) doom o free e = e
@@ -103,6 +105,7 @@ own_out size w Idle delta core out h = h
 own_out size w Committed delta core out h = h
 own_out size w (Aborted status) delta core out h = h
 own_out size w (AbortedBy by status) delta core out h = h
+own_out size w Drained delta core out h = cc
 own_out size w Begun delta core out h = cc
 own_out size w Inside delta core out h = cc
 
@@ -135,6 +138,8 @@ memory_case Begun reach kept after c stored memory a e h inside =
 memory_case (Aborted status) reach kept after c stored memory a e h inside =
     unwrapped false (stored_at stored a) (get_or after.memory a 0) (memory a) e h
 memory_case (AbortedBy by status) reach kept after c stored memory a e h inside =
+    unwrapped false (stored_at stored a) (get_or after.memory a 0) (memory a) e h
+memory_case Drained reach kept after c stored memory a e h inside =
     unwrapped false (stored_at stored a) (get_or after.memory a 0) (memory a) e h
 
 -- where a step tells of no byte, it stores none
@@ -175,23 +180,14 @@ no_store k m m2 core next doom (Aborted status) v reach kept a h e owes reached 
     ap (λ ws. is_listed (stored_addresses ws) a) (h.quiet refl)
 no_store k m m2 core next doom (AbortedBy by status) v reach kept a h e owes reached covered none =
     ap (λ ws. is_listed (stored_addresses ws) a) (h.quiet refl)
+no_store k m m2 core next doom Drained v reach kept a h e owes reached covered none =
+    ap (λ ws. is_listed (stored_addresses ws) a) (h.quiet refl)
 
 inside_quiet : (k : Setting) (m m2 : List ℕ) (core next : Core) (o : Outcome)
     → (h : IsMoved k m core o m2 next) → o ≡ Inside → h.stores ≡ []
 inside_quiet k m m2 core next o h e = h.quiet (ap stores_there e)
 
 -- ---- the step
-
-pub record Inverted (change : Option (List ℕ × Core)) (f : List ℕ × Core → State) (next : State) : Type 0 where
-  pub p : List ℕ × Core
-  pub is : change ≡ Some p
-  pub gives : f p ≡ next
-
-inverted : (t : Bool) (change : Option (List ℕ × Core)) (f : List ℕ × Core → State) (next : State)
-    → cond t (option_map f change) None ≡ Some next → Inverted change f next
-inverted true (Some p) f next e = record { p = p; is = refl; gives = same_Some (f p) next e }
-inverted true None f next e = cc
-inverted false change f next e = cc
 
 module _ (before after : ShownMachine) (c : ℕ) (o : Outcome) (delta : PageDelta)
     (h : IsTold before after c o delta) where
@@ -204,39 +200,83 @@ module _ (before after : ShownMachine) (c : ℕ) (o : Outcome) (delta : PageDelt
   abbrev pub core : Core
   core = h.state.cores c
 
-  pub made : Inverted (after_step_of k m core o) (state_with h.state c) h.takes.next
-  made = inverted (ltb c h.state.count) (after_step_of k m core o) (state_with h.state c) h.takes.next h.takes.is_step
+  -- no store is pending
+  none : (n : ℕ) → n < length before.views → h.state.pending n ≡ []
+  none = none_of before h.state h.doomed h.stands h.none
 
-  pub moves : IsMoved k m core o made.p.0 made.p.1
-  moves = moved k m core o made.p.0 made.p.1 made.is
+  pub made : PlainStep k h.state c o h.takes.next
+  made = plain_step k h.state c o h.takes.next h.most (none c h.within) h.takes.is_step
+
+  -- memory and the core behind it
+  abbrev pub m2 : List ℕ
+  m2 = made.change.0
+
+  abbrev pub core2 : Core
+  core2 = made.change.1
+
+  pub moves : IsMoved k m core o m2 core2
+  moves = moved k m core o m2 core2 made.is
+
+  dooms : (n : ℕ) → n < length before.views →
+      doomed_after k h.state h.doomed c o n ≡ doom_alone k h.state h.doomed c o n
+  dooms n below = doom_is k h.state h.doomed c o n h.most (none c h.within) (none n below)
+
+  shown_before : (n : ℕ) → n < length before.views →
+      view_of k m (h.state.cores n) (h.doomed n) ≡ Some (view_at before n)
+  shown_before = shows_alone before h.state h.doomed h.stands h.none
+
+  -- behind it none is pending either
+  seen_next : (n : ℕ) → n < length before.views → seen_by h.takes.next n ≡ h.takes.next.memory
+  seen_next n below =
+      seen_is h.takes.next n (none_after k h.state c o h.takes.next made n (none n below))
+
+  seen_after : seen_at after c ≡ after.memory
+  seen_after =
+      let below : c < length after.views = subst (λ l. c < l) (sym h.same.cores) h.within in
+      ap (seen_memory after.memory)
+      (h.takes.stands.same_pending c below ∙ none_after k h.state c o h.takes.next made c (none c h.within))
 
   each : (n : ℕ) → n < length before.views
-      → view_of k made.p.0 (cond (eqb n c) made.p.1 (h.state.cores n)) (doomed_after k h.state h.doomed c o n)
+      → view_of k m2 (cond (eqb n c) core2 (h.state.cores n)) (doom_alone k h.state h.doomed c o n)
       ≡ Some (view_at after n)
   each n below =
       subst
+      (λ (d : Option ℕ). view_of k m2 (cond (eqb n c) core2 (h.state.cores n)) d
+      ≡ Some (view_at after n))
+      (dooms n below)
+      (subst
       (λ (s : State). view_of k s.memory (s.cores n) (doomed_after k h.state h.doomed c o n) ≡ Some (view_at after n))
       (sym made.gives)
       (subst
-      (λ (r : Setting). view_of r h.takes.next.memory (h.takes.next.cores n) (doomed_after k h.state h.doomed c o n)
-      ≡ Some (view_at after n)) h.same.rules
-      (h.takes.stands.each n (subst (λ l. n < l) (sym h.same.cores) below)))
+      (λ (seen : List ℕ). view_of k seen (h.takes.next.cores n) (doomed_after k h.state h.doomed c o n)
+      ≡ Some (view_at after n))
+      (seen_next n below)
+      (subst
+      (λ (r : Setting). view_of r (seen_by h.takes.next n) (h.takes.next.cores n)
+      (doomed_after k h.state h.doomed c o n) ≡ Some (view_at after n)) h.same.rules
+      (h.takes.stands.each n (subst (λ l. n < l) (sym h.same.cores) below)))))
 
-  own_shown : view_of k made.p.0 made.p.1 (doom_after_own o (h.doomed c)) ≡ Some (view_at after c)
+  own_shown : view_of k m2 core2 (doom_after_own o (h.doomed c)) ≡ Some (view_at after c)
   own_shown =
-      subst (λ t. view_of k made.p.0 (cond t made.p.1 core) (cond t (doom_after_own o (h.doomed c))
+      subst (λ t. view_of k m2 (cond t core2 core) (cond t (doom_after_own o (h.doomed c))
       (doom_after_other k m (addresses_loaded_by k m core o) (addresses_stored_by k m core o) core (h.doomed c)))
       ≡ Some (view_at after c))
       (eq-eqb c c refl) (each c h.within)
 
   was_shown : view_of k m core (h.doomed c) ≡ Some (view_at before c)
-  was_shown = h.stands.each c h.within
+  was_shown = shown_before c h.within
 
   owes : is_aborted_by o ≡ false → o ≡ owed_outcome k m core (h.doomed c)
-  owes free = not_under h.event k m core (h.doomed c) o free h.takes.is_owed
+  owes free =
+      not_under h.event k m core (h.doomed c) o free
+      (h.takes.is_owed ∙ owed_is h.event k m (h.state.pending c) core (h.doomed c) (none c h.within))
 
   reached : loaded_addresses h.reach.store ≡ addresses_stored_at k m core (owed_outcome k m core (h.doomed c))
-  reached = (h.said h.state h.doomed h.stands).stores
+  reached =
+      subst
+      (λ (seen : List ℕ). loaded_addresses h.reach.store
+      ≡ addresses_stored_at k seen core (owed_outcome k seen core (h.doomed c)))
+      (seen_is h.state c (none c h.within)) (h.said h.state h.doomed h.stands).stores
 
   memory_is : after.memory ≡ memory_after m moves.stores
   memory_is = h.takes.stands.same_memory ∙ ap (λ (s : State). s.memory) (sym made.gives) ∙ moves.memory
@@ -256,13 +296,13 @@ module _ (before after : ShownMachine) (c : ℕ) (o : Outcome) (delta : PageDelt
   own_regs core same = sym h.difference.registers ∙ ap (patched delta.registers) same
 
   begins_case : (core : PageCore) → ShowsCore (length before.memory) v core
-      → BeginsHere m (h.state.cores c) o made.p.0 made.p.1 → ShowsCore (length after.memory) w (own_after o delta core)
+      → BeginsHere m (h.state.cores c) o m2 core2 → ShowsCore (length after.memory) w (own_after o delta core)
   begins_case core shows b =
       let are : AreBegun b.regs v w =
       are_begun k m b.regs (h.doomed c) v w (subst (λ y. view_of k m y (h.doomed c) ≡ Some v) b.was was_shown)
       (subst (λ x. view_of k m (Opened b.regs 1) (doom_after_own x (h.doomed c)) ≡ Some w) b.outcome
       (subst (λ y. view_of k m y (doom_after_own o (h.doomed c)) ≡ Some w) b.is
-      (subst (λ n. view_of k n made.p.1 (doom_after_own o (h.doomed c)) ≡ Some w) b.same own_shown))) in
+      (subst (λ n. view_of k n core2 (doom_after_own o (h.doomed c)) ≡ Some w) b.same own_shown))) in
       subst (λ x. ShowsCore (length after.memory) w (own_after x delta core)) (sym b.outcome)
       (record {
         mode = sym h.difference.state;
@@ -277,7 +317,7 @@ module _ (before after : ShownMachine) (c : ℕ) (o : Outcome) (delta : PageDelt
       })
 
   goes_case : (core : PageCore) → ShowsCore (length before.memory) v core
-      → GoesOnHere m (h.state.cores c) o made.p.0 made.p.1 → ShowsCore (length after.memory) w (own_after o delta core)
+      → GoesOnHere m (h.state.cores c) o m2 core2 → ShowsCore (length after.memory) w (own_after o delta core)
   goes_case core shows b =
       let owed : Inside ≡ owed_outcome k m (Opened b.regs b.steps) (h.doomed c) =
       subst (λ y. Inside ≡ owed_outcome k m y (h.doomed c)) b.was (sym b.outcome ∙ owes (ap is_aborted_by b.outcome)) in
@@ -286,7 +326,7 @@ module _ (before after : ShownMachine) (c : ℕ) (o : Outcome) (delta : PageDelt
       (subst (λ y. view_of k m y (h.doomed c) ≡ Some v) b.was was_shown)
       (subst (λ x. view_of k m (Opened b.regs (suc b.steps)) (doom_after_own x (h.doomed c)) ≡ Some w) b.outcome
       (subst (λ y. view_of k m y (doom_after_own o (h.doomed c)) ≡ Some w) b.is
-      (subst (λ n. view_of k n made.p.1 (doom_after_own o (h.doomed c)) ≡ Some w) b.same own_shown))) in
+      (subst (λ n. view_of k n core2 (doom_after_own o (h.doomed c)) ≡ Some w) b.same own_shown))) in
       let stores : loaded_addresses h.reach.store ≡ stored_addresses g.stores =
       subst (λ y. loaded_addresses h.reach.store ≡ addresses_stored_at k m y (owed_outcome k m y (h.doomed c))) b.was
       reached
@@ -318,16 +358,18 @@ module _ (before after : ShownMachine) (c : ℕ) (o : Outcome) (delta : PageDelt
             ≡ cond (is_listed (addresses_told x h.reach h.kept) a) (Some (byte_told x after c a)) None)
             b.outcome (h.difference.stored a below)
             ∙ ap (λ xs. cond (is_listed xs a) (Some (byte_seen after c a)) None) stores
+            ∙ ap (λ seen. cond (is_listed (stored_addresses g.stores) a)
+            (Some (unwrap_or (map_of.get w.buffer a) (get_or seen a 0) % 256)) None) seen_after
             ∙ ap (λ b. cond (is_listed (stored_addresses g.stores) a)
             (Some (unwrap_or (map_of.get b a) (get_or after.memory a 0) % 256)) None) g.after_buffer);
       })
 
-  out_case : (core : PageCore) → ShowsCore (length before.memory) v core → IsOut o made.p.1
+  out_case : (core : PageCore) → ShowsCore (length before.memory) v core → IsOut o core2
       → ShowsCore (length after.memory) w (own_after o delta core)
   out_case core shows b =
       own_out (length after.memory) w o delta core b.outcome
       (shows_outside (length after.memory) w delta.state (patched delta.registers core.regs)
-      (outside_any k made.p.0 made.p.1 (doom_after_own o (h.doomed c)) w b.is own_shown)
+      (outside_any k m2 core2 (doom_after_own o (h.doomed c)) w b.is own_shown)
       h.difference.state (sym (own_regs core shows.regs)))
 
   own : (core : PageCore) → ShowsCore (length before.memory) v core
@@ -348,7 +390,7 @@ module _ (before after : ShownMachine) (c : ℕ) (o : Outcome) (delta : PageDelt
       (doom_after_other k m loads ps (h.state.cores n) (h.doomed n)) ≡ Some (view_at after n)) (sym moves.stored)
       (subst (λ m2. view_of k m2 (h.state.cores n) (doom_after_other k m loads (addresses_stored_by k m core o)
       (h.state.cores n) (h.doomed n)) ≡ Some (view_at after n)) moves.memory
-      (subst (λ t. view_of k made.p.0 (cond t made.p.1 (h.state.cores n)) (cond t (doom_after_own o (h.doomed c))
+      (subst (λ t. view_of k m2 (cond t core2 (h.state.cores n)) (cond t (doom_after_own o (h.doomed c))
       (doom_after_other k m loads (addresses_stored_by k m core o) (h.state.cores n) (h.doomed n)))
       ≡ Some (view_at after n)) apart (each n below)))
 
@@ -357,8 +399,9 @@ module _ (before after : ShownMachine) (c : ℕ) (o : Outcome) (delta : PageDelt
       Tells k m loads moves.stores (hit_on delta n) (h.doomed n) (doomed_after k h.state h.doomed c o n)
   tells_after n below differs false free apart =
       subst (λ x. MatchOption (hit_on delta n) (doomed_after k h.state h.doomed c x n ≡ h.doomed n)
-      (λ hit. (h.doomed n ≡ None) × IsSome (doomed_after k h.state h.doomed c x n))) (sym (owes free))
-      (condemn k h.state h.doomed c n (hit_on delta n) apart
+      (λ hit. (h.doomed n ≡ None) × IsSome (doomed_after k h.state h.doomed c x n)))
+      (owed_is None k m (h.state.pending c) core (h.doomed c) (none c h.within) ∙ sym (owes free))
+      (condemn None k h.state h.doomed c n (hit_on delta n) apart
       (h.difference.hits n below differs free h.state h.doomed h.stands))
   tells_after n below differs true came apart =
       subst (λ told. MatchOption told (doomed_after k h.state h.doomed c o n ≡ h.doomed n)
@@ -375,18 +418,20 @@ module _ (before after : ShownMachine) (c : ℕ) (o : Outcome) (delta : PageDelt
       nobody Begun e = cc
       nobody Inside e = cc
       nobody Committed e = cc
+      nobody Drained e = cc
 
   pub fares_so : (n : ℕ) → n < length before.views → (n ≡ c → ⊥)
       → Fares k m loads moves.stores (hit_on delta n) (view_at before n) (view_at after n)
   fares_so n below differs =
       let apart : eqb n c ≡ false = ne_eqb n c differs in
       fares k m loads moves.stores (hit_on delta n) (h.state.cores n) (h.doomed n) (view_at before n) (view_at after n)
-      (h.stands.each n below) (other_shown n below apart)
+      (shown_before n below) (other_shown n below apart)
       (subst (λ ps. Tells k m loads moves.stores (hit_on delta n) (h.doomed n)
       (doom_after_other k m loads ps (h.state.cores n) (h.doomed n))) (sym moves.stored)
       (subst (λ t. Tells k m loads moves.stores (hit_on delta n) (h.doomed n) (cond t (doom_after_own o (h.doomed c))
       (doom_after_other k m loads (addresses_stored_by k m core o) (h.state.cores n) (h.doomed n)))) apart
-      (tells_after n below differs (is_aborted_by o) refl apart)))
+      (subst (λ (d : Option ℕ). Tells k m loads moves.stores (hit_on delta n) (h.doomed n) d) (dooms n below)
+      (tells_after n below differs (is_aborted_by o) refl apart))))
 
   -- ---- all of it
 
@@ -399,10 +444,10 @@ module _ (before after : ShownMachine) (c : ℕ) (o : Outcome) (delta : PageDelt
       let same : is_listed (stored_addresses moves.stores) a ≡ false → get_or after.memory a 0 ≡ page.memory a =
       λ none. ap (λ x. get_or x a 0) memory_is ∙ stays_there m moves.stores a none ∙ old in
       memory_case o h.reach h.kept after c delta.stored.items page.memory a (h.difference.stored a below)
-      (λ none. same (no_store k m made.p.0 core made.p.1 (h.doomed c) o v h.reach h.kept a moves was_shown owes reached
+      (λ none. same (no_store k m m2 core core2 (h.doomed c) o v h.reach h.kept a moves was_shown owes reached
       (λ not_kept. not_private v a (h.are_kept a there not_kept)) none))
       (λ inside.
-      same (ap (λ ws. is_listed (stored_addresses ws) a) (inside_quiet k m made.p.0 core made.p.1 o moves inside)))
+      same (ap (λ ws. is_listed (stored_addresses ws) a) (inside_quiet k m m2 core core2 o moves inside)))
 
   core_shown : (page : Page) → Shows before page → (n : ℕ) → n < length before.views →
       ShowsCore (length after.memory) (view_at after n)

@@ -3,8 +3,8 @@ use Rattle.std.specs.Prelude.{ℕ, Bool, false, ◌||◌, if◌then◌else◌, L
 use Rattle.std.specs.Prelude.{slice_index_or}
 use Rattle.std.specs.List.{list_any}
 use Rattle.std.specs.Option.{option_or}
-use Rattle.tm_page.specs.Types.{Aborted, AbortedBy, Begun, Changes, Committed, Condemned, CoreState, AtStop, Hit, Idle}
-use Rattle.tm_page.specs.Types.{Inside, Loaded, Mid, Open, Outcome, PageDelta, Plain, Regs, Running, Stopped}
+use Rattle.tm_page.specs.Types.{Aborted, AbortedBy, Begun, Changes, Committed, Condemned, CoreState, AtStop, Drained}
+use Rattle.tm_page.specs.Types.{Hit, Idle, Inside, Loaded, Mid, Open, Outcome, PageDelta, Plain, Regs, Running, Stopped}
 use Rattle.tm_page.specs.Types.{StoredByte}
 
 -- what the page has of a core
@@ -61,7 +61,7 @@ core_outside mode regs = record {
 }
 
 -- the core that steps: XBEGIN keeps its registers for an abort and begins with empty sets, a step inside adds to them,
--- and every other step leaves it outside
+-- a drain leaves it as it is, and every other step leaves it outside
 abbrev pub own_after : Outcome → PageDelta → PageCore → PageCore
 own_after Begun delta core = record {
   mode = delta.state;
@@ -86,6 +86,7 @@ own_after Idle delta core = core_outside delta.state (patched delta.registers co
 own_after Committed delta core = core_outside delta.state (patched delta.registers core.regs)
 own_after (Aborted status) delta core = core_outside delta.state (patched delta.registers core.regs)
 own_after (AbortedBy by status) delta core = core_outside delta.state (patched delta.registers core.regs)
+own_after Drained delta core = core
 
 -- the mark of a doomed transaction, which keeps its depth
 abbrev pub condemned : CoreState → CoreState
@@ -111,6 +112,7 @@ memory_with Begun stored memory address = unwrap_or (stored_at stored address) (
 memory_with Committed stored memory address = unwrap_or (stored_at stored address) (memory address)
 memory_with (Aborted status) stored memory address = unwrap_or (stored_at stored address) (memory address)
 memory_with (AbortedBy by status) stored memory address = unwrap_or (stored_at stored address) (memory address)
+memory_with Drained stored memory address = unwrap_or (stored_at stored address) (memory address)
 
 abbrev pub applied : PageDelta → Page → Page
 applied delta page = record {

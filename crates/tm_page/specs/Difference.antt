@@ -8,12 +8,12 @@ use Rattle.tm_model.specs.Access.{loaded_addresses}
 use Rattle.tm_model.specs.declared.outcome.Event.{Event}
 use Rattle.tm_model.specs.Explained.{IsReachTold}
 use Rattle.tm_model.specs.Runs.{is_aborted_by}
-use Rattle.tm_model.specs.State.{State}
+use Rattle.tm_model.specs.State.{State, seen_by}
 use Rattle.tm_model.specs.declared.explain.Reach.{Reach}
 use Rattle.tm_why.specs.Said.{IsSaidOf}
 use Rattle.tm_page.specs.Applied.{hit_on, is_listed, patched, stored_at}
 use Rattle.tm_page.specs.Shows.{IsAddress, IsDelta, private_byte}
-use Rattle.tm_page.specs.Types.{Aborted, AbortedBy, Begun, Committed, Condemned, Idle, Inside, Loaded, Open}
+use Rattle.tm_page.specs.Types.{Aborted, AbortedBy, Begun, Committed, Condemned, Drained, Idle, Inside, Loaded, Open}
 use Rattle.tm_page.specs.Types.{Outcome}
 use Rattle.tm_page.specs.Types.{PageDelta, Plain, Stopped}
 
@@ -21,7 +21,7 @@ use Rattle.tm_page.specs.Types.{PageDelta, Plain, Stopped}
 abbrev pub IsReachSaid : ShownMachine → ℕ → Reach → Type 0
 IsReachSaid machine core told =
     (state : State) (doomed : ℕ → Option ℕ) → StandsFor machine state doomed →
-    IsReachTold (machine_setting machine) state.memory (state.cores core) (doomed core) told
+    IsReachTold (machine_setting machine) (seen_by state core) (state.cores core) (doomed core) told
 
 -- all that a core's transaction keeps for itself is at these addresses
 abbrev pub AreKept : ShownMachine → ℕ → List ℕ → Type 0
@@ -29,7 +29,8 @@ AreKept machine core kept =
     (address : ℕ) → IsAddress (length machine.memory) address → is_listed kept address ≡ false →
     private_byte (view_at machine core) address ≡ None
 
--- where a step stores: inside and outside at the addresses that it reaches, a commit at all that were kept
+-- where a step stores: inside and outside at the addresses that it reaches, a commit at all that were kept; there is
+-- nothing to drain
 abbrev pub addresses_told : Outcome → Reach → List ℕ → List ℕ
 addresses_told Inside reach kept = loaded_addresses reach.store
 addresses_told Plain reach kept = loaded_addresses reach.store
@@ -40,6 +41,7 @@ addresses_told Idle reach kept = []
 addresses_told Begun reach kept = []
 addresses_told (Aborted status) reach kept = []
 addresses_told (AbortedBy by status) reach kept = []
+addresses_told Drained reach kept = []
 
 -- what stands there behind it: inside, what the core sees; else memory's byte
 abbrev pub byte_told : Outcome → ShownMachine → ℕ → ℕ → ℕ
@@ -52,6 +54,7 @@ byte_told Idle after core address = slice_index after.memory address
 byte_told Begun after core address = slice_index after.memory address
 byte_told (Aborted status) after core address = slice_index after.memory address
 byte_told (AbortedBy by status) after core address = slice_index after.memory address
+byte_told Drained after core address = slice_index after.memory address
 
 pub record IsDifference (before after : ShownMachine) (number : ℕ) (made : Outcome) (reach : Reach) (kept : List ℕ)
     (delta : PageDelta) : Type 0 where
@@ -72,9 +75,12 @@ pub record IsDifference (before after : ShownMachine) (number : ℕ) (made : Out
       (is_aborted_by made ≡ false → IsSaidOf before number other (hit_on delta other))
   pub none : (other : ℕ) → is_aborted_by made ≡ true → hit_on delta other ≡ None
 
--- a step was made, and these are the difference of what is shown before and behind it
+-- a step was made of a machine without store buffers, and these are the difference of what is shown before and behind
+-- it
 pub record IsTold (before after : ShownMachine) (core : ℕ) (outcome : Outcome) (delta : PageDelta) : Type 0 where
   pub within : core < length before.views
+  pub most : before.store_buffer ≡ 0
+  pub none : before.pending ≡ []
   pub same : SameMachine before after
   pub event : Option Event
   pub state : State

@@ -49,9 +49,9 @@ StatesStand =
     (start now : ShownMachine) (deltas : List PageDelta) (page : Page) →
     Shows start page → AreDeltas start deltas now → Shows now (all_applied deltas page)
 
--- a core sees its private bytes over memory
+-- a core sees its private bytes over memory, where no store is pending
 abbrev pub SeesPrivate : Type 0
 SeesPrivate =
-    (machine : ShownMachine) (page : Page) (core address : ℕ) →
+    (machine : ShownMachine) (page : Page) (core address : ℕ) → machine.pending ≡ [] →
     Shows machine page → core < length machine.views → IsAddress (length machine.memory) address →
     byte_seen machine core address ≡ unwrap_or ((page.cores core).private address) (page.memory address) % 256

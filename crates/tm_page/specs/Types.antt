@@ -9,4 +9,4 @@ pub use Rattle.tm_model.specs.declared.outcome.CoreState.TheVariants.{Running, M
 pub use Rattle.tm_model.specs.declared.outcome.Interference.{Interference}
 pub use Rattle.tm_model.specs.declared.outcome.Outcome.{Outcome}
 pub use Rattle.tm_model.specs.declared.outcome.Outcome.TheVariants.{Plain, Loaded, Stopped, Idle, Begun, Inside}
-pub use Rattle.tm_model.specs.declared.outcome.Outcome.TheVariants.{Committed, Aborted, AbortedBy}
+pub use Rattle.tm_model.specs.declared.outcome.Outcome.TheVariants.{Committed, Aborted, AbortedBy, Drained}

@@ -40,10 +40,11 @@ impl Before {
         }
         let reads = lines_of(alloc, machine, core, Kind::Read)?;
         let writes = lines_of(alloc, machine, core, Kind::Write)?;
+        let asked = Asked::of(machine, core).unwrap();
         Ok(Before {
-            asked: Asked::of(machine, core).unwrap(),
+            asked,
             regs: machine.regs(core).unwrap(),
-            reach: machine.reach(core).unwrap(),
+            reach: asked.reach,
             reads,
             writes,
         })

@@ -131,7 +131,8 @@ fn stored_by(
         | Outcome::Idle
         | Outcome::Begun
         | Outcome::Aborted(_)
-        | Outcome::AbortedBy(_, _) => Ok(Vec::new(alloc)),
+        | Outcome::AbortedBy(_, _)
+        | Outcome::Drained => Ok(Vec::new(alloc)),
     }
 }
 
@@ -149,6 +150,7 @@ fn hits_made(asked: &Asked, outcome: Outcome) -> [Option<Hit>; 64]
         | Outcome::Begun
         | Outcome::Inside
         | Outcome::Committed
+        | Outcome::Drained
         | Outcome::Aborted(_) => asked.hits,
     }
 }

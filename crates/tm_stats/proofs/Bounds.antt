@@ -2,7 +2,7 @@
 use Rattle.std.proofs.Common.{ℕ, ◌+◌, ◌*◌, ◌^◌, ◌<◌, ◌≤◌, Bool, true, false, ◌&&◌, List, [], ◌∷◌, length, nat_eq}
 use Rattle.std.proofs.Common.{if◌then◌else◌, arith}
 use Rattle.tm_model.specs.declared.outcome.Outcome.{Outcome}
-use Rattle.tm_model.specs.declared.outcome.Outcome.TheVariants.{Begun, Inside}
+use Rattle.tm_model.specs.declared.outcome.Outcome.TheVariants.{Begun, Inside, Drained}
 use Rattle.tm_stats.specs.Counts.{commits_of, how_many, is_aborted, is_committed, lost_at, open_after, open_steps}
 use Rattle.tm_stats.specs.Tally.{counted}
 use Rattle.tm_stats.specs.declared.step.Step.{Step}
@@ -29,6 +29,7 @@ commits_of-le size_of place size (step ∷ steps) =
 open_after-le : (outcome : Outcome) (n m : ℕ) → n ≤ m → open_after outcome n ≤ m + 1
 open_after-le Begun n m h = omega arith
 open_after-le Inside n m h = omega arith
+open_after-le Drained n m h = omega arith
 open_after-le outcome n m h = omega arith
 
 under-le : (own : Bool) (outcome : Outcome) (n m : ℕ) → n ≤ m → (if own then open_after outcome n else n) ≤ m + 1

@@ -4,7 +4,7 @@ use Rattle.std.proofs.Common.{if◌then◌else◌, refl, ap, ◌∙◌, arith}
 use Rattle.std.specs.HashMap.{HashMap}
 use Rattle.tm_model.specs.declared.outcome.Outcome.{Outcome}
 use Rattle.tm_model.specs.declared.outcome.Outcome.TheVariants.{Plain, Loaded, Stopped, Idle, Begun, Inside}
-use Rattle.tm_model.specs.declared.outcome.Outcome.TheVariants.{Committed, Aborted, AbortedBy}
+use Rattle.tm_model.specs.declared.outcome.Outcome.TheVariants.{Committed, Aborted, AbortedBy, Drained}
 use Rattle.tm_stats.specs.Causes.{cause_counted}
 use Rattle.tm_stats.specs.Counts.{begun_at, committed_at, aborted_at, aborted_for, commits_of, counts_of}
 use Rattle.tm_stats.specs.Counts.{is_aborted, is_begun, is_committed, lost_at, open_steps, same_cause, same_size}
@@ -46,6 +46,8 @@ at (Aborted status) true b c a l before = refl
 at (Aborted status) false b c a l before = refl
 at (AbortedBy interference status) true b c a l before = refl
 at (AbortedBy interference status) false b c a l before = refl
+at Drained true b c a l before = refl
+at Drained false b c a l before = refl
 
 pub counts_step : (step : Step) (earlier : List Step) (q : ℕ) →
     (if nat_eq step.place q

@@ -5,7 +5,7 @@ use Rattle.std.specs.HashMap.{spare}
 use Rattle.std.specs.Prelude.{nat_eq, slice_index}
 use Rattle.tm_model.specs.declared.outcome.Outcome.{Outcome}
 use Rattle.tm_model.specs.declared.outcome.Outcome.TheVariants.{Plain, Loaded, Stopped, Idle, Begun, Inside}
-use Rattle.tm_model.specs.declared.outcome.Outcome.TheVariants.{Committed, Aborted, AbortedBy}
+use Rattle.tm_model.specs.declared.outcome.Outcome.TheVariants.{Committed, Aborted, AbortedBy, Drained}
 use Rattle.tm_stats.specs.Causes.{cause_counted}
 use Rattle.tm_stats.specs.Places.{counts_at}
 use Rattle.tm_stats.specs.Tally.{counted, total_of}
@@ -66,9 +66,11 @@ aborted_for same place cause =
 
 -- ---- steps of transactions
 
+-- a drain is no instruction: it is none of the transaction's steps, and leaves it open
 abbrev pub open_after : Outcome → ℕ → ℕ
 open_after Begun before = 1
 open_after Inside before = before + 1
+open_after Drained before = before
 open_after outcome before = 0
 
 -- how many steps a core has made in its open transaction, the first of them XBEGIN; 0 where it has none

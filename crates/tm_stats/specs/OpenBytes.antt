@@ -7,7 +7,7 @@ use Rattle.std.specs.List.{list_any}
 use Rattle.std.specs.HashSet.{contains}
 use Rattle.tm_model.specs.Access.{loaded_addresses}
 use Rattle.tm_model.specs.declared.outcome.Outcome.{Outcome}
-use Rattle.tm_model.specs.declared.outcome.Outcome.TheVariants.{Inside}
+use Rattle.tm_model.specs.declared.outcome.Outcome.TheVariants.{Drained, Inside}
 use Rattle.tm_stats.specs.Counts.{is_committed}
 use Rattle.tm_stats.specs.declared.open_bytes.ByteStep.{ByteStep}
 use Rattle.tm_stats.specs.declared.open_bytes.OpenBytes.{OpenBytes}
@@ -15,6 +15,10 @@ use Rattle.tm_stats.specs.declared.open_bytes.OpenBytes.{OpenBytes}
 abbrev pub is_inside : Outcome → Bool
 is_inside Inside = true
 is_inside outcome = false
+
+abbrev pub is_drained : Outcome → Bool
+is_drained Drained = true
+is_drained outcome = false
 
 abbrev pub is_among : List ℕ → ℕ → Bool
 is_among addresses address = list_any (λ one. nat_eq one address) addresses
@@ -27,16 +31,21 @@ stores_byte step address = is_among (loaded_addresses step.reach.store) address
 
 -- ---- of an open transaction
 
--- whether it has loaded this byte; any step but one inside begins a transaction, ends it or is outside of any
+-- whether it has loaded this byte; a drain is none of its steps, and any other step but one inside begins a
+-- transaction, ends it or is outside of any
 abbrev pub has_loaded : List ByteStep → ℕ → Bool
 has_loaded [] address = false
 has_loaded (step ∷ earlier) address =
-    is_inside step.outcome && (loads_byte step address || has_loaded earlier address)
+    if is_drained step.outcome
+    then has_loaded earlier address
+    else (is_inside step.outcome && (loads_byte step address || has_loaded earlier address))
 
 abbrev pub has_stored : List ByteStep → ℕ → Bool
 has_stored [] address = false
 has_stored (step ∷ earlier) address =
-    is_inside step.outcome && (stores_byte step address || has_stored earlier address)
+    if is_drained step.outcome
+    then has_stored earlier address
+    else (is_inside step.outcome && (stores_byte step address || has_stored earlier address))
 
 -- what is kept of these steps
 pub record AreOpenBytes (bytes : OpenBytes) (steps : List ByteStep) : Type 0 where

@@ -145,6 +145,7 @@ fn open_after(outcome: Outcome, before: u64) -> u64
     match outcome {
         Outcome::Begun => 1,
         Outcome::Inside => plus(before, 1),
+        Outcome::Drained => before,
         _ => 0,
     }
 }

@@ -1,13 +1,14 @@
 //! The bytes of open transactions.
 //!
 //! [`OpenBytes::is_apart`] is asked before a step, of whom it hits, and [`OpenBytes::note`] takes the step behind it: a
-//! step that ends a transaction lets its bytes go. Each core has bytes of its own.
+//! step that ends a transaction lets its bytes go, and the drain of an older store keeps them. Each core has bytes of
+//! its own.
 
 ghost use Rattle.std.specs.Prelude.{◌≡◌, ◌+◌, ◌<◌, ◌≤◌, ◌||◌, ◌∷◌, [], ℕ, List, OnErr, OnOk, nat_eq, IsTrue, ◌↔◌};
 ghost use Rattle.indexmap.specs.IndexSet.{contains, spare};
 ghost use Rattle.tm_model.specs.Access.{loaded_addresses};
 ghost use Rattle.tm_stats.specs.Counts.{is_committed};
-ghost use Rattle.tm_stats.specs.OpenBytes.{is_among, is_inside};
+ghost use Rattle.tm_stats.specs.OpenBytes.{is_among, is_drained, is_inside};
 
 use ia_addr::Access;
 use ia_word::Width;
@@ -54,6 +55,9 @@ impl OpenBytes {
         ensures err { OnErr result ((steps : List ByteStep) → AreOpenBytes self.old steps
             → AreOpenBytes self.new steps) }
     {
+        if is_drained(step.outcome) {
+            return Ok(());
+        }
         if !is_inside(step.outcome) {
             self.loaded.clear();
             self.stored.clear();
@@ -102,6 +106,13 @@ fn is_inside(outcome: Outcome) -> bool
     ensures { result ≡ is_inside outcome }
 {
     matches!(outcome, Outcome::Inside)
+}
+
+// Whether a step was the drain of a store that was pending.
+fn is_drained(outcome: Outcome) -> bool
+    ensures { result ≡ is_drained outcome }
+{
+    matches!(outcome, Outcome::Drained)
 }
 
 // Whether a step was a commit.

@@ -21,3 +21,4 @@ fate_at (outcome.Stopped stop) = None
 fate_at outcome.Idle = None
 fate_at outcome.Begun = None
 fate_at outcome.Inside = None
+fate_at outcome.Drained = None

@@ -14,18 +14,33 @@ pub const AREA: u32 = 34;
 // The height of the columns in tenths of a pixel.
 const TENTHS: u64 = 340;
 
+// The columns of a core.
+#[derive(Clone, Copy)]
+struct Area<'a> {
+    columns: &'a Columns,
+    core: u8,
+    // Where they stand, in pixels from above.
+    foot: u32,
+}
+
 /// Draws the columns of each row.
 pub fn draw_areas<O: Out>(svg: &mut Svg<'_, O>, sheet: &Sheet<'_>, columns: &Columns) {
     for row in 0..sheet.rows.count() {
         if let Some(core) = sheet.rows.core(row) {
-            draw_core(svg, columns, core, sheet.top(row) + AREA);
+            let foot = sheet.top(row) + AREA;
+            let area = Area {
+                columns,
+                core,
+                foot,
+            };
+            draw_core(svg, area);
         }
     }
 }
 
 // The columns of a core, above their foot. Each layer covers those below it, and these are drawn above it.
-fn draw_core<O: Out>(svg: &mut Svg<'_, O>, columns: &Columns, core: u8, foot: u32) {
-    let whole = columns.whole(core);
+fn draw_core<O: Out>(svg: &mut Svg<'_, O>, area: Area<'_>) {
+    let whole = area.columns.whole(area.core);
     for layer in [
         Layer::Outside,
         Layer::Open,
@@ -35,20 +50,18 @@ fn draw_core<O: Out>(svg: &mut Svg<'_, O>, columns: &Columns, core: u8, foot: u3
     ] {
         let steps = whole.of(layer);
         if steps > 0 {
-            draw_area(svg, columns, core, foot, layer, steps);
+            draw_layer(svg, area, layer, steps);
         }
     }
 }
 
 // A layer of a core with so many steps: a line along its columns, which is begun and ended at their foot.
-fn draw_area<O: Out>(
-    svg: &mut Svg<'_, O>,
-    columns: &Columns,
-    core: u8,
-    foot: u32,
-    layer: Layer,
-    steps: u32,
-) {
+fn draw_layer<O: Out>(svg: &mut Svg<'_, O>, area: Area<'_>, layer: Layer, steps: u32) {
+    let Area {
+        columns,
+        core,
+        foot,
+    } = area;
     svg.put(
         "<path class='{}' d='M{} {}",
         &[Word(layer.class()), Number(LEFT), Number(foot)],

@@ -113,7 +113,13 @@ fn draw_names<O: Out, L: LineLabels>(
             let begin = side.begin(place.x, width);
             if gap < 64 && taken[gap] <= begin && arrow.hit.on.is_some() {
                 taken[gap] = begin.saturating_add(width);
-                draw_name(svg, sheet, place, side, arrow.hit, labels);
+                let y = sheet.gap(place.gap);
+                let name = NamePlace {
+                    x: place.x,
+                    y,
+                    side,
+                };
+                draw_name(svg, name, arrow.hit, labels);
             }
         }
     }
@@ -145,23 +151,25 @@ impl Side {
     }
 }
 
-// The line of a hit beside its arrow.
-fn draw_name<O: Out, L: LineLabels>(
-    svg: &mut Svg<'_, O>,
-    sheet: &Sheet<'_>,
-    place: Place,
+// Where a line's name stands.
+#[derive(Clone, Copy)]
+struct NamePlace {
+    // The middle of its arrow, from the left.
+    x: Tenths,
+    // Its height, in pixels from above.
+    y: u32,
     side: Side,
-    hit: Hit,
-    labels: &L,
-) {
-    let (class, x) = match side {
+}
+
+// The line of a hit beside its arrow.
+fn draw_name<O: Out, L: LineLabels>(svg: &mut Svg<'_, O>, place: NamePlace, hit: Hit, labels: &L) {
+    let (class, x) = match place.side {
         Side::Right => ("n", place.x.plus(50)),
         Side::Left => ("n e", place.x.past(Tenths(50))),
     };
-    let y = sheet.gap(place.gap);
     svg.put(
         "<text class='{}' x='{}' y='{}'>",
-        &[Word(class), Length(x), Number(y)],
+        &[Word(class), Length(x), Number(place.y)],
     );
     draw_line(svg, hit, labels);
     svg.text("</text>\n");

@@ -8,6 +8,7 @@ use crate::svg::Svg;
 use crate::value::Value::{Core, Length, Line, Number, Status, Word};
 use crate::window::number_of;
 use text_out::Out;
+use tm_sets::Kind;
 
 /// The height of a bar in pixels.
 pub const BAR: u32 = 22;
@@ -30,6 +31,14 @@ pub fn draw_bars<O: Out, L: LineLabels>(
     }
 }
 
+// What lies between two steps in a row.
+#[derive(Clone, Copy)]
+struct Part {
+    row: u8,
+    begin: u32,
+    end: u32,
+}
+
 // The bar of a transaction in this row, which is hatched from the hit on. It ends the group.
 fn draw_bar<O: Out>(svg: &mut Svg<'_, O>, sheet: &Sheet<'_>, span: &Span, row: u8) {
     let begin = sheet.window.clamped(span.begin);
@@ -38,30 +47,33 @@ fn draw_bar<O: Out>(svg: &mut Svg<'_, O>, sheet: &Sheet<'_>, span: &Span, row: u
         Some(hit) => sheet.window.clamped(hit.step.saturating_add(1)).min(end),
         None => end,
     };
-    draw_part(svg, sheet, row, span.fate.class(), begin, hit);
-    draw_part(svg, sheet, row, "h", hit.max(begin), end);
-    draw_word(svg, sheet, row, span.fate, begin, hit);
+    let plain = Part {
+        row,
+        begin,
+        end: hit,
+    };
+    let hatched = Part {
+        row,
+        begin: hit.max(begin),
+        end,
+    };
+    draw_part(svg, sheet, plain, span.fate.class());
+    draw_part(svg, sheet, hatched, "h");
+    draw_word(svg, sheet, plain, span.fate);
     svg.text("</g>\n");
 }
 
-// A part of a bar between two steps, where there is one.
-fn draw_part<O: Out>(
-    svg: &mut Svg<'_, O>,
-    sheet: &Sheet<'_>,
-    row: u8,
-    class: &str,
-    begin: u32,
-    end: u32,
-) {
-    if begin < end {
-        let x = sheet.window.place(begin);
-        let width = sheet.window.place(end).past(x);
+// A part of a bar, where there is one.
+fn draw_part<O: Out>(svg: &mut Svg<'_, O>, sheet: &Sheet<'_>, part: Part, class: &str) {
+    if part.begin < part.end {
+        let x = sheet.window.place(part.begin);
+        let width = sheet.window.place(part.end).past(x);
         svg.put(
             "<rect class='b {}' x='{}' y='{}' width='{}' height='{}'/>",
             &[
                 Word(class),
                 Length(x),
-                Number(sheet.top(row)),
+                Number(sheet.top(part.row)),
                 Length(width),
                 Number(BAR),
             ],
@@ -69,25 +81,18 @@ fn draw_part<O: Out>(
     }
 }
 
-// The word on the bar, where it has room between two steps.
-fn draw_word<O: Out>(
-    svg: &mut Svg<'_, O>,
-    sheet: &Sheet<'_>,
-    row: u8,
-    fate: Fate,
-    begin: u32,
-    end: u32,
-) {
+// The word on a bar, where this part of it has room.
+fn draw_word<O: Out>(svg: &mut Svg<'_, O>, sheet: &Sheet<'_>, part: Part, fate: Fate) {
     let word = fate.word();
-    let x = sheet.window.place(begin);
-    let room = sheet.window.place(end).past(x);
+    let x = sheet.window.place(part.begin);
+    let room = sheet.window.place(part.end).past(x);
     if room.0 >= CHARACTER.saturating_mul(word.len().min(20) as u32) {
         svg.put(
             "<text class='{}' x='{}' y='{}'>{}</text>",
             &[
                 Word(class_of(fate)),
                 Length(x.plus(40)),
-                Number(sheet.top(row) + 15),
+                Number(sheet.top(part.row) + 15),
                 Word(word),
             ],
         );
@@ -139,10 +144,9 @@ pub fn draw_hit<O: Out, L: LineLabels>(svg: &mut Svg<'_, O>, hit: Hit, labels: &
         &[Number(number_of(hit.step)), Core(hit.by)],
     );
     if let Some(used) = hit.on {
-        svg.text(if used.is_write {
-            ", which writes "
-        } else {
-            ", which reads "
+        svg.text(match used.kind {
+            Kind::Write => ", which writes ",
+            Kind::Read => ", which reads ",
         });
         draw_line(svg, hit, labels);
     }

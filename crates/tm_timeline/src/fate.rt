@@ -1,4 +1,5 @@
-//! What transactions come to.
+//! What transactions come to, with the word and the class that a bar has for it: a commit, or the cause that the status
+//! of an abort tells, or the event that aborted it.
 
 ghost use Rattle.std.specs.Prelude.{◌≡◌};
 ghost use Rattle.tm_timeline.specs.Fates.{fate_at, fate_of};
@@ -48,7 +49,8 @@ pub fn fate_at(outcome: Outcome) -> Option<Fate>
         | Outcome::Stopped(_)
         | Outcome::Idle
         | Outcome::Begun
-        | Outcome::Inside => None,
+        | Outcome::Inside
+        | Outcome::Drained => None,
     }
 }
 

@@ -17,29 +17,42 @@ const CHARACTER: u32 = 62;
 
 const SMALL: u32 = 50;
 
-/// Draws the instruction of the step of this number of the row that begins there, which has room as far as the core's
-/// next step, or else the picture's edge: on one line where it fits.
-pub fn draw_instruction<O: Out>(
-    svg: &mut Svg<'_, O>,
-    sheet: &Sheet<'_>,
-    number: u32,
-    text: Option<&StepText>,
-    top: u32,
-    next: Option<u32>,
-)
-    requires { top ≤ 30000 }
-{
+/// Where an instruction stands.
+#[derive(Clone, Copy)]
+pub struct Slot {
+    // Where it begins, from the left.
+    x: Tenths,
+    // Its first line, in pixels from above.
+    y: u32,
+    // How wide it may be.
+    room: Tenths,
+}
+
+impl Slot {
+    /// That of the step of this number of the row that begins there: as far as the core's next step, or else the
+    /// picture's edge.
+    pub fn of(sheet: &Sheet<'_>, number: u32, top: u32, next: Option<u32>) -> Slot
+        requires { top ≤ 30000 }
+    {
+        let x = sheet.window.place(number);
+        Slot {
+            x,
+            y: top + BAR + 15,
+            room: room_to(sheet, x, next),
+        }
+    }
+}
+
+/// Draws an instruction: on one line where it fits.
+pub fn draw_instruction<O: Out>(svg: &mut Svg<'_, O>, slot: Slot, text: Option<&StepText>) {
     let text = match text {
         Some(text) => text.instruction.as_str(),
         None => "",
     };
-    let x = sheet.window.place(number);
-    let room = room_to(sheet, x, next);
-    let y = top + BAR + 15;
-    if fits(text, room, CHARACTER) {
-        draw_text(svg, "d", x, y, text);
+    if fits(text, slot.room, CHARACTER) {
+        draw_text(svg, "d", slot.x, slot.y, text);
     } else {
-        draw_parts(svg, x, y, text, room);
+        draw_parts(svg, slot, text);
     }
 }
 
@@ -57,19 +70,17 @@ fn fits(text: &str, room: Tenths, character: u32) -> bool {
 }
 
 // The prefix, the mnemonic and the operands, each on a line of its own where it has room.
-fn draw_parts<O: Out>(svg: &mut Svg<'_, O>, x: Tenths, y: u32, text: &str, room: Tenths)
-    requires { y ≤ 40000 }
-{
+fn draw_parts<O: Out>(svg: &mut Svg<'_, O>, slot: Slot, text: &str) {
     let (prefix, rest) = match text.strip_prefix("lock ") {
         Some(rest) => ("lock", rest),
         None => ("", text),
     };
     let (mnemonic, operands) = rest.split_once(" ").unwrap_or((rest, ""));
     let (first, second) = operands.split_once(", ").unwrap_or((operands, ""));
-    let mut line = y;
+    let mut line = slot.y;
     for part in [prefix, mnemonic, without_size(first), without_size(second)] {
-        if !part.is_empty() && fits(part, room, SMALL) {
-            draw_text(svg, "f", x, line, part);
+        if !part.is_empty() && fits(part, slot.room, SMALL) {
+            draw_text(svg, "f", slot.x, line, part);
             line = line.saturating_add(9);
         }
     }

@@ -35,7 +35,7 @@ mod window;
 pub use fate::{Fate, fate_at, fate_of};
 pub use label::{Label, LineLabels};
 pub use rows::Rows;
-pub use spans::{Hit, LineUse, Span};
+pub use spans::{Hit, Span};
 pub use step_text::StepText;
 pub use timeline::Timeline;
 pub use window::Window;

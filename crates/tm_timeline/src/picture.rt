@@ -1,4 +1,5 @@
-//! The whole picture.
+//! The whole picture: what was taken in while the run went on is drawn at its end, transactions one by one where they
+//! fit, and by columns of steps where they do not.
 
 use crate::areas::draw_areas;
 use crate::arrows::draw_arrows;

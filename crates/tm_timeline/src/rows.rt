@@ -1,4 +1,4 @@
-//! Which cores are drawn.
+//! Which cores are drawn, a row each, in the order in which they are asked for: at most 64.
 
 ghost use Rattle.std.specs.Prelude.{◌≤◌};
 

@@ -8,24 +8,15 @@ use crate::window::Window;
 use std::alloc::{AllocError, Global};
 use tm_model::Outcome;
 
-/// How a step used a line of 64 bytes, when it hit a transaction.
-#[derive(Clone, Copy)]
-pub struct LineUse {
-    /// The number of the line: address / 64.
-    pub line: u32,
-    /// Whether it stored to the line; else it loaded from it.
-    pub is_write: bool,
-}
-
-/// A hit: what doomed a transaction.
+/// A hit in a run: who doomed a transaction, and when.
 #[derive(Clone, Copy)]
 pub struct Hit {
     /// The step that hit it.
     pub step: u32,
     /// The core of that step.
     pub by: u8,
-    /// The line, where it is known.
-    pub on: Option<LineUse>,
+    /// The line and how the step used it, where that is known.
+    pub on: Option<tm_model::Hit>,
 }
 
 /// A transaction of a core.

@@ -4,7 +4,7 @@ ghost use Rattle.std.specs.Prelude.{◌≤◌};
 
 use crate::bars::BAR;
 use crate::frame::Sheet;
-use crate::instructions::draw_instruction;
+use crate::instructions::{Slot, draw_instruction};
 use crate::spans::{Spans, Step};
 use crate::step_text::{StepText, draw_step_text};
 use crate::svg::Svg;
@@ -24,7 +24,8 @@ pub fn draw_ticks<O: Out>(svg: &mut Svg<'_, O>, sheet: &Sheet<'_>, spans: &Spans
             draw_step(svg, sheet, step, text, top);
             if sheet.window.has_instructions() {
                 let next = next_of(&spans.steps.as_slice()[index + 1..], step.core);
-                draw_instruction(svg, sheet, step.number, text, top, next);
+                let slot = Slot::of(sheet, step.number, top, next);
+                draw_instruction(svg, slot, text);
             }
         }
     }
@@ -108,6 +109,7 @@ fn look_of(step: Step) -> Look {
         Outcome::Committed => (true, "t", "committed"),
         Outcome::Aborted(_) => (true, "t", "aborted"),
         Outcome::AbortedBy(_, _) => (true, "t", "aborted"),
+        Outcome::Drained => (false, "g", "drained"),
     };
     Look {
         is_inside,

@@ -8,7 +8,7 @@ use crate::frame::Sheet;
 use crate::label::{Label, LineLabels};
 use crate::picture::{Picture, draw};
 use crate::rows::Rows;
-use crate::spans::{Arrow, Hit, LineUse, Span, Spans, Step, is_drawn};
+use crate::spans::{Arrow, Hit, Span, Spans, Step, is_drawn};
 use crate::step_text::StepText;
 use crate::svg::Svg;
 use crate::variables::Variables;
@@ -151,7 +151,7 @@ impl Timeline {
 
     /// Tells that the next step, of core `by`, hits the open transaction of another core. To be told before the step
     /// is.
-    pub fn hit(&mut self, victim: u8, by: u8, on: Option<LineUse>) -> Result<(), AllocError>
+    pub fn hit(&mut self, victim: u8, by: u8, on: Option<tm_model::Hit>) -> Result<(), AllocError>
         ensures { SameSteps self.old self.new }
     {
         let Some(transaction) = self.transaction(victim) else {
@@ -354,7 +354,10 @@ fn kind_of(outcome: Outcome) -> StepKind {
         | Outcome::Committed
         | Outcome::Aborted(_)
         | Outcome::AbortedBy(_, _) => StepKind::Inside,
-        Outcome::Plain | Outcome::Loaded | Outcome::Stopped(_) => StepKind::Outside,
+        // What drains was stored outside of transactions, also where its core is in one now.
+        Outcome::Plain | Outcome::Loaded | Outcome::Stopped(_) | Outcome::Drained => {
+            StepKind::Outside
+        }
         Outcome::Idle => StepKind::Idle,
     }
 }

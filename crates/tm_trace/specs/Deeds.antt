@@ -10,8 +10,9 @@ use Rattle.ia_word.specs.declared.width.Width.{Width}
 use Rattle.ia_word.specs.declared.width.Width.TheVariants.{B, D}
 use Rattle.tm_core.specs.Theorem.{ShownMachine as Machine, StandsFor, machine_setting, view_at}
 use Rattle.tm_core.specs.Seen.{byte_seen}
+use Rattle.tm_model.specs.Conflicts.{Doomed}
 use Rattle.tm_model.specs.Explained.{IsReachTold}
-use Rattle.tm_model.specs.State.{State}
+use Rattle.tm_model.specs.State.{State, seen_by}
 use Rattle.tm_model.specs.declared.explain.Reach.{Reach}
 use Rattle.tm_model.specs.declared.outcome.Outcome.{Outcome}
 use Rattle.tm_model.specs.declared.outcome.Outcome.TheVariants as outcome
@@ -58,13 +59,18 @@ datum_seen machine core (Some access) =
     })
     else None
 
+-- what the machine says before a core's next step of the bytes that it reaches
+abbrev pub IsReachSaid : Machine → ℕ → Reach → Type 0
+IsReachSaid machine core told =
+    (state : State) (doomed : Doomed) → StandsFor machine state doomed →
+    IsReachTold (machine_setting machine) (seen_by state core) (state.cores core) (doomed core) told
+
 -- what is told of a core's next step by the machine before it
 pub record IsBefore (machine : Machine) (program : Program) (core : ℕ) (before : Before) : Type 0 where
   pub exists : nat_lt core (length machine.views) ≡ true
   pub eip : before.eip ≡ (view_at machine core).regs.eip
   pub insn : before.insn ≡ instruction_at program (view_at machine core).regs.eip
-  pub reach : (a : State) (d : ℕ → Option ℕ) → StandsFor machine a d →
-      IsReachTold (machine_setting machine) a.memory (a.cores core) (d core) before.reach
+  pub reach : IsReachSaid machine core before.reach
   pub loaded : before.loaded ≡ datum_seen machine core before.reach.load
 
 -- a step that its instruction made, and that goes on; of others no number is told
@@ -78,6 +84,7 @@ tells_reach outcome.Idle = false
 tells_reach (outcome.Stopped stop) = false
 tells_reach (outcome.Aborted status) = false
 tells_reach (outcome.AbortedBy by status) = false
+tells_reach outcome.Drained = false
 
 -- what the step of an outcome did, by the machine behind it
 pub record IsDeed (before : Before) (machine : Machine) (core : ℕ) (outcome : Outcome) (deed : Deed) : Type 0 where

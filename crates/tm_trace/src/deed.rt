@@ -1,16 +1,15 @@
 //! What a step does, told from the machine before it and behind it.
 //!
-//! [`Before::of`] is asked first, and keeps what the core sees where the step loads, as the step may store there.
-//! Behind the step [`Before::deed`] looks at where it stored, and leaves out both where the outcome says that the
-//! instruction did not go on. The step is made by the caller between the two.
+//! [`Before::of`] is asked first, or [`Before::reaching`] of a step that was previewed, and keeps what the core sees
+//! where the step loads, as the step may store there. Behind the step [`Before::deed`] looks at where it stored, and
+//! leaves out both where the outcome says that the instruction did not go on. The step is made by the caller between
+//! the two.
 
-ghost use Rattle.std.specs.Prelude.{◌≡◌, ◌↔◌, ◌<◌, ℕ, IfSome, IsSome, Option, length, true};
+ghost use Rattle.std.specs.Prelude.{◌≡◌, ◌↔◌, ◌<◌, IfSome, IsSome, length, true};
 ghost use Rattle.tm_core.specs.Seen.{byte_seen};
-ghost use Rattle.tm_core.specs.Theorem.{StandsFor, machine_setting, view_at};
-ghost use Rattle.tm_model.specs.Explained.{IsReachTold};
-ghost use Rattle.tm_model.specs.State.{State};
-ghost use Rattle.tm_trace.specs.Deeds.{IsBefore, IsDeed, datum_seen, instruction_at, is_in_memory, last_of};
-ghost use Rattle.tm_trace.specs.Deeds.{tells_reach, value_seen};
+ghost use Rattle.tm_core.specs.Theorem.{view_at};
+ghost use Rattle.tm_trace.specs.Deeds.{IsBefore, IsDeed, IsReachSaid, datum_seen, instruction_at, is_in_memory};
+ghost use Rattle.tm_trace.specs.Deeds.{last_of, tells_reach, value_seen};
 
 use ia_addr::Access;
 use ia_image::Program;
@@ -59,17 +58,26 @@ impl Before {
         ensures exists { IsSome result ↔ (core < length machine.now.views) }
         ensures told { IfSome result (λ before. IsBefore machine.now program.now core before) }
     {
-        if core >= machine.cores() {
+        let Ok(preview) = machine.preview(core) else {
             return None;
-        }
+        };
+        Some(Before::reaching(machine, program, core, preview.reach))
+    }
+
+    /// What a machine that runs a program tells of the next step of a core, of which its preview says that it reaches
+    /// these bytes.
+    pub fn reaching(machine: &Machine, program: &Program, core: u8, reach: Reach) -> Before
+        requires core { core < length machine.now.views }
+        requires reach { IsReachSaid machine.now core reach }
+        ensures { IsBefore machine.now program.now core result }
+    {
         let eip = eip_of(machine, core);
-        let reach = reach_of(machine, core);
-        Some(Before {
+        Before {
             eip,
             insn: insn_at(program, eip),
             reach,
             loaded: datum_seen(machine, core, reach.load),
-        })
+        }
     }
 
     /// What the step did, from the machine behind it and its outcome: one that stopped, begun, ended, or was idle
@@ -112,15 +120,6 @@ fn insn_at(program: &Program, at: u32) -> Option<Insn>
         Ok((insn, _length)) => Some(insn),
         Err(_) => None,
     }
-}
-
-// The bytes that the next step of a core reaches.
-fn reach_of(machine: &Machine, core: u8) -> Reach
-    requires { core < length machine.now.views }
-    ensures { (a : State) (d : ℕ → Option ℕ) → StandsFor machine.now a d →
-        IsReachTold (machine_setting machine.now) a.memory (a.cores core) (d core) result }
-{
-    machine.reach(core).unwrap()
 }
 
 // The number that a core sees at some bytes, where they lie in memory.

@@ -1,5 +1,6 @@
 -- A row that is filled one by one.
-use Rattle.std.proofs.Common.{◌≡◌, ℕ, zero, suc, ◌<◌, ◌≤◌, ◌+◌, List, length, get_or, set, replicate, refl, ◌∙◌, arith}
+use Rattle.std.proofs.Common.{◌≡◌, ℕ, zero, suc, ◌<◌, ◌≤◌, ◌+◌, List, length, get_or, set, replicate, refl, sym, ◌∙◌}
+use Rattle.std.proofs.Common.{arith, subst}
 use Rattle.std.proofs.lemmas.List.{get_or-set_same, get_or-set_other}
 use Rattle.tm_why.specs.Types.{Watched}
 use Rattle.tm_why.specs.Watched.{outside}
@@ -32,3 +33,15 @@ passed_next f rows first core row h passed here =
     let other : k ≡ core → ⊥ = λ same. omega arith in
     get_or-set_other rows core k row outside other ∙ passed k less)
     (get_or-set_same rows core row outside h ∙ here)
+
+-- ---- what each place is promised
+
+pub each_next : {A : Type 0} → (P : ℕ → A → Type 0) → (rows : List A) (place : ℕ) (row default : A) →
+    place < length rows → ((k : ℕ) → k < place → P k (get_or rows k default)) → P place row →
+    (k : ℕ) → k < place + 1 → P k (get_or (set rows place row) k default)
+each_next P rows place row default within passed here =
+    below_more (λ (k : ℕ). P k (get_or (set rows place row) k default)) place
+    (λ k less.
+    let other : k ≡ place → ⊥ = λ same. omega arith in
+    subst (P k) (sym (get_or-set_other rows place k row default other)) (passed k less))
+    (subst (P place) (sym (get_or-set_same rows place row default within)) here)

@@ -1,25 +1,27 @@
 -- A hit stands on a core exactly while the core is doomed.
-use Rattle.std.proofs.Common.{◌≡◌, ◌⊎◌, inl, inr, ℕ, suc, Bool, true, false, eqb, if◌then◌else◌, List, length, Option}
-use Rattle.std.proofs.Common.{Some, None, refl, sym, ap, ◌∙◌, subst}
+use Rattle.std.proofs.Common.{◌≡◌, ◌⊎◌, inl, inr, ℕ, suc, Bool, true, false, eqb, if◌then◌else◌, List, [], ◌∷◌, length}
+use Rattle.std.proofs.Common.{Option, Some, None, refl, sym, ap, ◌∙◌, subst}
 use Rattle.std.specs.Prelude.{IsSome, MatchOption}
 use Rattle.std.specs.Option.{is_some, option_or}
 use Rattle.std.proofs.lemmas.Bool.{eqb-true, eq-eqb, true≢false}
-use Rattle.tm_model.specs.Conflicts.{Doomed, addresses_loaded_by, addresses_stored_by, doom_after_other, doom_after_own}
-use Rattle.tm_model.specs.Conflicts.{doomed_after}
-use Rattle.tm_model.specs.Explained.{IsHitTold}
-use Rattle.tm_model.specs.Owed.{owed_outcome, owed_under}
+use Rattle.tm_model.specs.Conflicts.{Doomed, addresses_loaded_by, addresses_written_by, doom_after_other}
+use Rattle.tm_model.specs.Conflicts.{doom_after_own, doomed_after}
+use Rattle.tm_model.specs.Explained.{IsHitTold, owed_now}
+use Rattle.tm_model.specs.Owed.{owed_outcome, owed_under, owed_with_pending}
+use Rattle.tm_model.specs.Runs.{is_aborted_by}
 use Rattle.tm_model.specs.Setting.{Setting}
-use Rattle.tm_model.specs.State.{Closed, Core, Halted, Midway, Opened, State}
+use Rattle.tm_model.specs.State.{Closed, Core, Halted, Midway, Opened, Pending, State, seen_by, seen_memory}
+use Rattle.tm_model.specs.Steps.{must_wait}
 use Rattle.tm_model.specs.declared.outcome.Event.{Event}
 use Rattle.tm_model.specs.declared.outcome.Event.TheVariants as event
 use Rattle.tm_model.specs.declared.outcome.Interference.{Interference}
 use Rattle.tm_model.specs.declared.outcome.Outcome.{Outcome}
 use Rattle.tm_model.specs.declared.outcome.Outcome.TheVariants.{Aborted, AbortedBy, Begun, Committed, Idle, Inside}
-use Rattle.tm_model.specs.declared.outcome.Outcome.TheVariants.{Loaded, Plain, Stopped}
+use Rattle.tm_model.specs.declared.outcome.Outcome.TheVariants.{Drained, Loaded, Plain, Stopped}
 use Rattle.tm_model.specs.declared.explain.Hit.{Hit}
 use Rattle.tm_core.proofs.ExplainLaws.{condemn}
 use Rattle.tm_model.proofs.Events.{abort_hits_nobody, aborted_by_none, no_event_told}
-use Rattle.tm_why.specs.Standing.{AreStanding, HitsStand}
+use Rattle.tm_why.specs.Standing.{AreStanding, HitsStand, asked_under}
 use Rattle.tm_why.specs.Types.{Asked, StandingHit}
 use Rattle.tm_why.specs.Watched.{Told, hit_in, hit_made, hit_on, left_by, standing}
 
@@ -36,6 +38,7 @@ not_doomed Inside hit e = e
 not_doomed Committed hit e = refl
 not_doomed (Aborted status) hit e = refl
 not_doomed (AbortedBy interference status) hit e = refl
+not_doomed Drained hit e = e
 
 own_owed : (setting : Setting) (memory : List ℕ) (core : Core) (doom : Option ℕ) (hit : Option StandingHit) →
     is_some doom ≡ is_some hit →
@@ -51,18 +54,41 @@ own_owed setting memory (Midway regs value) None hit e =
 own_owed setting memory (Opened regs steps) None hit e =
     not_doomed (owed_outcome setting memory (Opened regs steps) None) hit e
 
--- under an event, the abort by it, or else what is owed without
-own : (event : Option Event) (setting : Setting) (memory : List ℕ) (core : Core) (doom : Option ℕ)
+-- a drain in the place of the step leaves both
+own_waits : (waits : Bool) (outcome : Outcome) (doom : Option ℕ) (hit : Option StandingHit) →
+    is_some doom ≡ is_some hit → is_some (doom_after_own outcome doom) ≡ is_some (left_by outcome hit) →
+    is_some (doom_after_own (if waits then Drained else outcome) doom)
+    ≡ is_some (left_by (if waits then Drained else outcome) hit)
+own_waits true outcome doom hit e owed = e
+own_waits false outcome doom hit e owed = owed
+
+own_pending : (setting : Setting) (memory : List ℕ) (pending : Pending) (core : Core) (doom : Option ℕ)
     (hit : Option StandingHit) → is_some doom ≡ is_some hit →
-    is_some (doom_after_own (owed_under event setting memory core doom) doom)
-    ≡ is_some (left_by (owed_under event setting memory core doom) hit)
-own None setting memory core doom hit e = own_owed setting memory core doom hit e
-own (Some (event.Abort by)) setting memory (Opened regs steps) None hit e = refl
-own (Some (event.Abort by)) setting memory (Opened regs steps) (Some depth) hit e = refl
-own (Some (event.Abort by)) setting memory (Halted regs stop) doom hit e = e
-own (Some (event.Abort by)) setting memory (Closed regs) doom hit e = own_owed setting memory (Closed regs) doom hit e
-own (Some (event.Abort by)) setting memory (Midway regs value) doom hit e =
-    own_owed setting memory (Midway regs value) doom hit e
+    is_some (doom_after_own (owed_with_pending setting memory pending core doom) doom)
+    ≡ is_some (left_by (owed_with_pending setting memory pending core doom) hit)
+own_pending setting memory pending core doom hit e =
+    let seen : List ℕ = seen_memory memory pending in
+    let outcome : Outcome = owed_outcome setting seen core doom in
+    own_waits (must_wait setting seen pending core outcome) outcome doom hit e
+    (own_owed setting seen core doom hit e)
+
+-- under an event, the abort by it, or a drain, or else what is owed without
+own : (event : Option Event) (setting : Setting) (memory : List ℕ) (pending : Pending) (core : Core)
+    (doom : Option ℕ) (hit : Option StandingHit) → is_some doom ≡ is_some hit →
+    is_some (doom_after_own (owed_under event setting memory pending core doom) doom)
+    ≡ is_some (left_by (owed_under event setting memory pending core doom) hit)
+own None setting memory pending core doom hit e = own_pending setting memory pending core doom hit e
+own (Some event.Drain) setting memory [] core doom hit e = own_pending setting memory [] core doom hit e
+own (Some event.Drain) setting memory (oldest ∷ younger) core doom hit e = e
+own (Some (event.Abort by)) setting memory pending (Opened regs steps) None hit e = refl
+own (Some (event.Abort by)) setting memory pending (Opened regs steps) (Some depth) hit e =
+    own_pending setting memory pending (Opened regs steps) (Some depth) hit e
+own (Some (event.Abort by)) setting memory pending (Halted regs stop) doom hit e =
+    own_pending setting memory pending (Halted regs stop) doom hit e
+own (Some (event.Abort by)) setting memory pending (Closed regs) doom hit e =
+    own_pending setting memory pending (Closed regs) doom hit e
+own (Some (event.Abort by)) setting memory pending (Midway regs value) doom hit e =
+    own_pending setting memory pending (Midway regs value) doom hit e
 
 -- ---- another core's step
 
@@ -85,32 +111,55 @@ told_other number asked None before after hit m e = ap is_some m ∙ e ∙ sym (
 told_other number asked (Some h) before after hit m e =
     m.1 ∙ sym (or_some hit (record { step = number; core = asked.core; eip = asked.eip; hit = h }))
 
--- an event aborts the core, or the step is what it is without one
-befalls : (event : Option Event) (setting : Setting) (memory : List ℕ) (core : Core) (doom : Option ℕ) →
-    (owed_under event setting memory core doom ≡ owed_outcome setting memory core doom)
-    ⊎ ((by : Interference) × ((status : ℕ) × (owed_under event setting memory core doom ≡ AbortedBy by status)))
-befalls None setting memory core doom = inl refl
-befalls (Some (event.Abort by)) setting memory (Opened regs steps) None = inr (by, (_, refl))
-befalls (Some (event.Abort by)) setting memory (Opened regs steps) (Some depth) = inl refl
-befalls (Some (event.Abort by)) setting memory (Halted regs stop) doom = inl refl
-befalls (Some (event.Abort by)) setting memory (Closed regs) doom = inl refl
-befalls (Some (event.Abort by)) setting memory (Midway regs value) doom = inl refl
+-- an event aborts the core, or the step is the one that was asked
+befalls : (event : Option Event) (setting : Setting) (memory : List ℕ) (pending : Pending) (core : Core)
+    (doom : Option ℕ) → (owed_under event setting memory pending core doom
+    ≡ owed_under (asked_under event) setting memory pending core doom)
+    ⊎ ((by : Interference) × ((status : ℕ) × (owed_under event setting memory pending core doom ≡ AbortedBy by status)))
+befalls None setting memory pending core doom = inl refl
+befalls (Some event.Drain) setting memory pending core doom = inl refl
+befalls (Some (event.Abort by)) setting memory pending (Opened regs steps) None = inr (by, (_, refl))
+befalls (Some (event.Abort by)) setting memory pending (Opened regs steps) (Some depth) = inl refl
+befalls (Some (event.Abort by)) setting memory pending (Halted regs stop) doom = inl refl
+befalls (Some (event.Abort by)) setting memory pending (Closed regs) doom = inl refl
+befalls (Some (event.Abort by)) setting memory pending (Midway regs value) doom = inl refl
+
+-- which is no abort from outside
+waits_alone : (waits : Bool) (outcome : Outcome) → is_aborted_by outcome ≡ false →
+    is_aborted_by (if waits then Drained else outcome) ≡ false
+waits_alone true outcome none = refl
+waits_alone false outcome none = none
+
+pending_alone : (setting : Setting) (memory : List ℕ) (pending : Pending) (core : Core) (doom : Option ℕ) →
+    is_aborted_by (owed_with_pending setting memory pending core doom) ≡ false
+pending_alone setting memory pending core doom =
+    let seen : List ℕ = seen_memory memory pending in
+    let outcome : Outcome = owed_outcome setting seen core doom in
+    waits_alone (must_wait setting seen pending core outcome) outcome
+    (aborted_by_none outcome (no_event_told setting seen core doom))
+
+asked_alone : (event : Option Event) (setting : Setting) (memory : List ℕ) (pending : Pending) (core : Core)
+    (doom : Option ℕ) → is_aborted_by (owed_under (asked_under event) setting memory pending core doom) ≡ false
+asked_alone None setting memory pending core doom = pending_alone setting memory pending core doom
+asked_alone (Some (event.Abort by)) setting memory pending core doom = pending_alone setting memory pending core doom
+asked_alone (Some event.Drain) setting memory [] core doom = pending_alone setting memory [] core doom
+asked_alone (Some event.Drain) setting memory (oldest ∷ younger) core doom = refl
 
 -- ---- each step
 
 module _ (event : Option Event) (setting : Setting) (state : State) (doomed : Doomed) (asked : Asked)
     (earlier : List Told) where
   abbrev outcome : Outcome
-  outcome = owed_under event setting state.memory (state.cores asked.core) (doomed asked.core)
+  outcome = owed_now event setting state doomed asked.core
 
   abbrev doom_own : Option ℕ
   doom_own = doom_after_own outcome (doomed asked.core)
 
   abbrev doom_other : ℕ → Option ℕ
   doom_other other =
-      doom_after_other setting state.memory
-      (addresses_loaded_by setting state.memory (state.cores asked.core) outcome)
-      (addresses_stored_by setting state.memory (state.cores asked.core) outcome)
+      doom_after_other setting (seen_by state other)
+      (addresses_loaded_by setting (seen_by state asked.core) (state.cores asked.core) outcome)
+      (addresses_written_by setting state.memory (state.pending asked.core) (state.cores asked.core) outcome)
       (state.cores other) (doomed other)
 
   abbrev hit_own : ℕ → Option StandingHit
@@ -126,29 +175,33 @@ module _ (event : Option Event) (setting : Setting) (state : State) (doomed : Do
 
   -- the core's own step hits as it was asked, and an abort from outside hits nobody
   is_told : (core : ℕ) → eqb core asked.core ≡ false →
-      IsHitTold setting state doomed asked.core core (hit_on asked core) → IsToldBy core outcome
+      IsHitTold (asked_under event) setting state doomed asked.core core (hit_on asked core) → IsToldBy core outcome
   is_told core apart told =
-      elim (befalls event setting state.memory (state.cores asked.core) (doomed asked.core)) [
+      let stepping : Core = state.cores asked.core in
+      let pending : Pending = state.pending asked.core in
+      elim (befalls event setting state.memory pending stepping (doomed asked.core)) [
         | inl same ↦
-            let own : Outcome = owed_outcome setting state.memory (state.cores asked.core) (doomed asked.core) in
-            let all : hit_on asked core ≡ hit_made (asked, own) core =
+            let made : Outcome = owed_now (asked_under event) setting state doomed asked.core in
+            let all : hit_on asked core ≡ hit_made (asked, made) core =
             sym
             (ap (λ aborted. if aborted then None else hit_on asked core)
-            (aborted_by_none own (no_event_told setting state.memory (state.cores asked.core) (doomed asked.core)))) in
+            (asked_alone event setting state.memory pending stepping (doomed asked.core))) in
             subst (IsToldBy core) (sym same)
-            (subst (IsTold (doomed core) (doomed_after setting state doomed asked.core own core)) all
-            (condemn setting state doomed asked.core core (hit_on asked core) apart told))
+            (subst (IsTold (doomed core) (doomed_after setting state doomed asked.core made core)) all
+            (condemn (asked_under event) setting state doomed asked.core core (hit_on asked core) apart told))
         | inr aborted ↦
             subst (IsToldBy core) (sym aborted.1.1)
             (abort_hits_nobody setting state doomed asked.core aborted.0 aborted.1.0 core apart)
       ]
 
   by_core : (core : ℕ) (same : Bool) → eqb core asked.core ≡ same →
-      ((other : ℕ) → (other ≡ asked.core → ⊥) → IsHitTold setting state doomed asked.core other (hit_on asked other)) →
+      ((other : ℕ) → (other ≡ asked.core → ⊥) →
+      IsHitTold (asked_under event) setting state doomed asked.core other (hit_on asked other)) →
       AreStanding doomed earlier →
       is_some (if same then doom_own else doom_other core) ≡ is_some (if same then hit_own core else hit_other core)
   by_core core true e told stands =
-      own event setting state.memory (state.cores asked.core) (doomed asked.core) (hit_in core earlier)
+      own event setting state.memory (state.pending asked.core) (state.cores asked.core) (doomed asked.core)
+      (hit_in core earlier)
       (sym (ap (λ c. is_some (doomed c)) (eqb-true core asked.core e)) ∙ stands core)
   by_core core false e told stands =
       let differs : core ≡ asked.core → ⊥ = λ same. true≢false (sym (eq-eqb core asked.core same) ∙ e) in

@@ -1,9 +1,9 @@
 -- What a machine says of a core's next step before it is made.
 use Rattle.std.specs.Prelude.{◌≡◌, ℕ, ◌<◌, ◌≤◌, Option, None, length}
 use Rattle.tm_model.specs.Explained.{abort_reason}
-use Rattle.tm_model.specs.State.{State}
+use Rattle.tm_model.specs.State.{State, seen_by}
 use Rattle.tm_core.specs.Theorem.{ShownMachine, StandsFor, machine_setting, view_at}
-use Rattle.tm_why.specs.Said.{IsSaidOf}
+use Rattle.tm_why.specs.Said.{IsReachSaid, IsSaidOf}
 use Rattle.tm_why.specs.Types.{Asked}
 use Rattle.tm_why.specs.Watched.{hit_on}
 
@@ -15,4 +15,5 @@ pub record IsAsked (machine : ShownMachine) (number : ℕ) (asked : Asked) : Typ
   pub own : hit_on asked number ≡ None
   pub absent : (other : ℕ) → length machine.views ≤ other → hit_on asked other ≡ None
   pub reason : (state : State) (doomed : ℕ → Option ℕ) → StandsFor machine state doomed →
-      asked.reason ≡ abort_reason (machine_setting machine) state.memory (state.cores number) (doomed number)
+      asked.reason ≡ abort_reason (machine_setting machine) (seen_by state number) (state.cores number) (doomed number)
+  pub reach : IsReachSaid machine number asked.reach

@@ -1,4 +1,5 @@
 pub mod Said
+pub mod Hits
 pub mod Types
 pub mod Watched
 pub mod Standing

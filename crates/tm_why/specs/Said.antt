@@ -1,12 +1,20 @@
--- What a machine says of a hit.
-use Rattle.std.specs.Prelude.{ℕ, Option}
-use Rattle.tm_model.specs.Explained.{IsHitTold}
-use Rattle.tm_model.specs.State.{State}
+-- What a machine says of a hit, and of the bytes that a step reaches.
+use Rattle.std.specs.Prelude.{ℕ, Option, None}
+use Rattle.tm_model.specs.Explained.{IsHitTold, IsReachTold}
+use Rattle.tm_model.specs.State.{State, seen_by}
 use Rattle.tm_model.specs.declared.explain.Hit.{Hit}
+use Rattle.tm_model.specs.declared.explain.Reach.{Reach}
 use Rattle.tm_core.specs.Theorem.{ShownMachine, StandsFor, machine_setting}
 
--- of the next step of a core, the hit by which another core is condemned, in each state that the machine stands for
+-- of the next step of a core, under no event, the hit by which another core is condemned, in each state that the
+-- machine stands for
 abbrev pub IsSaidOf : ShownMachine → ℕ → ℕ → Option Hit → Type 0
 IsSaidOf machine core other told =
     (state : State) (doomed : ℕ → Option ℕ) → StandsFor machine state doomed →
-    IsHitTold (machine_setting machine) state doomed core other told
+    IsHitTold None (machine_setting machine) state doomed core other told
+
+-- of the next step of a core, the bytes that it reaches, in each state that the machine stands for
+abbrev pub IsReachSaid : ShownMachine → ℕ → Reach → Type 0
+IsReachSaid machine core told =
+    (state : State) (doomed : ℕ → Option ℕ) → StandsFor machine state doomed →
+    IsReachTold (machine_setting machine) (seen_by state core) (state.cores core) (doomed core) told

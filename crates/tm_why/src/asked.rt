@@ -1,5 +1,5 @@
-//! What a machine says of a core's step before it is made: whom it hits, on which line, and why it is an abort, if
-//! it is one.
+//! What a machine says of a core's step before it is made: whom it hits, on which line, why it is an abort, if it is
+//! one, and which bytes it reaches.
 //!
 //! The step is planned once, and the cores are gone through only where it may hit one. [`Asked::of`] makes a row of
 //! hits and [`Asked::anew`] fills one that is there, for who asks before every step. That an event comes in place
@@ -8,13 +8,19 @@
 ghost use Rattle.std.specs.Prelude.{◌≡◌, ℕ, ◌↔◌, ◌<◌, ◌≤◌, IfOk, IsOk, None, OnErr, OnOk, length, slice_index_or};
 ghost use Rattle.tm_core.specs.Previewed.{IsPreview};
 ghost use Rattle.tm_core.specs.Theorem.{view_at};
-ghost use Rattle.tm_why.specs.Said.{IsSaidOf};
+ghost use Rattle.tm_why.specs.Hits.{AreHits, HasNoHits};
 
 use tm_core::{Machine, NoSuchCore, Preview};
-use tm_model::{AbortReason, Hit};
+use tm_model::{AbortReason, Hit, Reach};
 
 /// The most cores of a machine.
 pub const MOST_CORES: usize = 64;
+
+/// No bytes.
+const NOTHING: Reach = Reach {
+    load: None,
+    store: None,
+};
 
 /// What a machine says of the next step of a core, before the step is made.
 #[derive(Clone, Copy, Debug)]
@@ -29,6 +35,8 @@ pub struct Asked {
     pub below: u8,
     /// Why the step is an abort, where it is one.
     pub reason: Option<AbortReason>,
+    /// Which bytes the step loads and stores.
+    pub reach: Reach,
     pub ghost few: { core < 64 },
     pub ghost most: { below ≤ 64 },
     pub ghost none: { (k : ℕ) → below ≤ k → slice_index_or hits k None ≡ None },
@@ -46,6 +54,7 @@ impl Asked {
             hits: [None; MOST_CORES],
             below: 0,
             reason: None,
+            reach: NOTHING,
         }
     }
 
@@ -66,6 +75,7 @@ impl Asked {
             hits,
             below,
             reason: preview.reason,
+            reach: preview.reach,
         })
     }
 }
@@ -91,6 +101,7 @@ impl Asked {
         self.core = core;
         self.eip = preview.eip;
         self.reason = preview.reason;
+        self.reach = preview.reach;
         Ok(())
     }
 }
@@ -99,7 +110,7 @@ impl Asked {
 fn clear(hits: &mut [Option<Hit>; MOST_CORES], below: u8)
     requires most { below ≤ 64 }
     requires none { (k : ℕ) → below ≤ k → slice_index_or hits.old k None ≡ None }
-    ensures { (k : ℕ) → slice_index_or hits.new k None ≡ None }
+    ensures { HasNoHits hits.new }
 {
     for core in 0..below as usize {
         hits[core] = None;
@@ -109,12 +120,8 @@ fn clear(hits: &mut [Option<Hit>; MOST_CORES], below: u8)
 // Puts the step's hits, by the numbers of the cores, into a row that has none, and says below which number they are.
 fn hits_of(machine: &Machine, preview: &Preview, hits: &mut [Option<Hit>; MOST_CORES]) -> u8
     requires preview { IsPreview machine.now preview.now }
-    requires empty { (k : ℕ) → slice_index_or hits.old k None ≡ None }
-    ensures hits { (other : ℕ) → other < length machine.now.views → (other ≡ preview.now.core → ⊥) →
-        IsSaidOf machine.now preview.now.core other (slice_index_or hits.new other None) }
-    ensures own { slice_index_or hits.new preview.now.core None ≡ None }
-    ensures most { result ≤ length machine.now.views }
-    ensures none { (k : ℕ) → result ≤ k → slice_index_or hits.new k None ≡ None }
+    requires empty { HasNoHits hits.old }
+    ensures { AreHits machine.now preview.now.core hits.new result }
 {
     if machine.may_hit(preview) {
         put_hits(machine, preview, hits)
@@ -126,12 +133,8 @@ fn hits_of(machine: &Machine, preview: &Preview, hits: &mut [Option<Hit>; MOST_C
 // As [`hits_of`], of a step that may hit a core: each core is asked for.
 fn put_hits(machine: &Machine, preview: &Preview, hits: &mut [Option<Hit>; MOST_CORES]) -> u8
     requires preview { IsPreview machine.now preview.now }
-    requires empty { (k : ℕ) → slice_index_or hits.old k None ≡ None }
-    ensures hits { (other : ℕ) → other < length machine.now.views → (other ≡ preview.now.core → ⊥) →
-        IsSaidOf machine.now preview.now.core other (slice_index_or hits.new other None) }
-    ensures own { slice_index_or hits.new preview.now.core None ≡ None }
-    ensures most { result ≤ length machine.now.views }
-    ensures none { (k : ℕ) → result ≤ k → slice_index_or hits.new k None ≡ None }
+    requires empty { HasNoHits hits.old }
+    ensures { AreHits machine.now preview.now.core hits.new result }
 {
     let mut below = 0;
     for victim in 0..machine.cores() {

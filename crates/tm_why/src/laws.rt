@@ -6,7 +6,7 @@
 ghost use Rattle.tm_why.specs.Standing.{HitsStand};
 
 /// A hit stands on a core exactly while the core is doomed: where that is so, it is so behind each owed step whose hits
-/// were told, under an event from outside of the program or under none. So each abort of a doomed transaction is told
+/// were told, under an event or under none. So each abort of a doomed transaction is told
 /// with the hit that condemned it, and no abort with a hit of a step that was not made.
 pub fn hits_stand()
     ensures { HitsStand }

@@ -57,8 +57,12 @@ pub fn take_own(row: &mut Watched, outcome: Outcome, number: u64)
     match outcome {
         Outcome::Begun | Outcome::Committed | Outcome::Aborted(_) | Outcome::AbortedBy(_, _) =>
             *row = after_own(*row, outcome, number),
-        Outcome::Plain | Outcome::Loaded | Outcome::Stopped(_) | Outcome::Idle | Outcome::Inside =>
-            {}
+        Outcome::Plain
+        | Outcome::Loaded
+        | Outcome::Stopped(_)
+        | Outcome::Idle
+        | Outcome::Inside
+        | Outcome::Drained => {}
     }
 }
 
@@ -76,7 +80,8 @@ fn hit_made(asked: &Asked, outcome: Outcome, core: usize) -> Option<Hit>
         | Outcome::Begun
         | Outcome::Inside
         | Outcome::Committed
-        | Outcome::Aborted(_) => asked.hits[core],
+        | Outcome::Aborted(_)
+        | Outcome::Drained => asked.hits[core],
     }
 }
 
