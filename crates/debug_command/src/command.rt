@@ -1,4 +1,5 @@
-//! Commands as they are read.
+//! Commands as they are read: a line comes in, and its command comes out with its numbers, or why it is none. Names in
+//! place of addresses are looked up here; whether a number is in its range is asked where the command is carried out.
 
 ghost use Rattle.std.specs.Prelude.{◌≡◌};
 ghost use Rattle.debug_command.specs.Numbers.{number_in};

@@ -1,4 +1,4 @@
-//! How a session speaks.
+//! How a session speaks: to a person at a terminal, or to a program that sends commands.
 
 /// How a session speaks.
 #[derive(Clone, Copy, PartialEq, Eq)]

@@ -1,4 +1,5 @@
-//! Numbers in a command.
+//! Whether a word is a number in a command: decimal, hex or binary digits, in the assembler's spellings, however many.
+//! Its value is `ia_lex`'s.
 
 ghost use Rattle.std.specs.Prelude.{◌≡◌, ◌==◌, ◌||◌, ◌<◌, length};
 ghost use Rattle.std.specs.Char.{is_ascii_digit, is_ascii_hexdigit};

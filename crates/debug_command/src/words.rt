@@ -1,4 +1,4 @@
-//! The words of a line.
+//! The words of a line, from left to right, with spaces between. Nothing is quoted.
 
 ghost use Rattle.std.specs.Prelude.{◌≡◌, ◌==◌, not};
 ghost use Rattle.std.specs.List.{position};

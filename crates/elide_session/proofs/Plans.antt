@@ -7,12 +7,14 @@ use Rattle.std.specs.Option.{option_copied}
 use Rattle.elide_args.specs.declared.subcommand.ScheduleOptions.{ScheduleOptions}
 use Rattle.elide_setup.proofs.Drawing.{all_told_under}
 use Rattle.elide_setup.proofs.Runs.{run_of_all}
-use Rattle.elide_setup.specs.Drawing.{AreUnder, IsAskedDraw, IsSeed}
-use Rattle.elide_setup.specs.Refused.{IsNoCore, IsNoWalk, plan_path}
-use Rattle.elide_setup.specs.Rounds.{IsDrawnOut, IsOut, IsPlannedOut}
+use Rattle.elide_setup.specs.Drawing.{AreUnder, IsCourseDraw, IsSeed}
+use Rattle.elide_setup.specs.Refused.{IsNoCore, IsNoWalk}
+use Rattle.elide_setup.specs.Rounds.{IsDrawnOut, IsOut}
 use Rattle.elide_setup.specs.Runs.{AreMachineSteps, IsRunOf}
-use Rattle.elide_setup.specs.Schedules.{ArePlanned, are_listed, form_asked, form_of, picks_made, picks_told, plan_form}
+use Rattle.elide_setup.specs.Schedules.{AreOf, are_listed, form_asked, form_of, picks_made, picks_told}
 use Rattle.tm_core.specs.Theorem.{ShownMachine as Machine, machine_setting}
+use Rattle.tm_model.proofs.NonePending.{none_at_first}
+use Rattle.tm_model.specs.Setting.{Setting}
 use Rattle.tm_model.specs.State.{opening_state}
 use Rattle.elide_setup.specs.Walks.{Leads}
 use Rattle.elide_setup.specs.declared.fault.Refusal.{Refusal}
@@ -20,12 +22,10 @@ use Rattle.elide_setup.specs.declared.machine.Setup.{Setup}
 use Rattle.elide_setup.specs.declared.plan.Course.{Course}
 use Rattle.elide_setup.specs.declared.plan.Course.TheVariants as course
 use Rattle.elide_setup.specs.declared.plan.Drawn.{Drawn}
-use Rattle.elide_setup.specs.declared.plan.Plan.{Plan}
-use Rattle.elide_setup.specs.declared.plan.Plan.TheVariants as plan
 use Rattle.tm_hist.specs.Board.{IsNew, ShownBoard as Board}
 use Rattle.tm_model.specs.declared.outcome.Outcome.{Outcome}
 use Rattle.tm_model.specs.declared.outcome.Pick.{Pick}
-use Rattle.elide_session.specs.Opened.{AreDrawn, IsLimitedOut, limited_plan, most_drawn}
+use Rattle.elide_session.specs.Opened.{AreDrawn, IsLimitedOut, limited_course, most_drawn}
 use Rattle.elide_session.specs.Refused.{IsUndrawn}
 
 -- ---- of a run whose steps are drawn
@@ -45,7 +45,7 @@ plan_under drawn setup cores before after picks new walked =
     let ran = run_of_all setup.program setup.limits walked.0 before after new walked.2 in
     subst (λ (l : List Pick). AreUnder drawn.events l) (sym walked.3)
     (all_told_under drawn.events (machine_setting ran.start) (opening_state setup.program) (λ _. None) walked.0
-    ran.under walked.1)
+    (ap (λ (k : Setting). k.store_buffer) ran.rules) (none_at_first setup.program) ran.under walked.1)
 
 pub plan_run : (drawn : Drawn) (setup : Setup) (cores : ℕ) (before after : Machine) (picks : List Pick)
     → IsRunOf setup.program setup.limits [] before →
@@ -75,23 +75,14 @@ of_walk drawn setup cores before why new same (inr none) = inr (inr none)
 
 -- ---- of the options
 
--- a plan of which no more are drawn is of the same steps
-pub limited_steps : (content : List ℕ → Option (List ℕ)) (asked : Plan) (picks : List Pick)
-    → ArePlanned content (limited_plan asked) picks →
-    ArePlanned content asked picks
-limited_steps content (plan.Steps listed) picks h = h
-limited_steps content (plan.File path) picks h = h
-limited_steps content (plan.Drawn drawn) picks h = h
+-- a course of which no more are drawn is of the same steps
+pub limited_steps : (asked : Course) (picks : List Pick) → AreOf (limited_course asked) picks → AreOf asked picks
+limited_steps (course.Listed listed) picks h = h
+limited_steps (course.Drawn drawn) picks h = h
 
-pub limited_form : (asked : Plan) → plan_form (limited_plan asked) ≡ plan_form asked
-limited_form (plan.Steps listed) = refl
-limited_form (plan.File path) = refl
-limited_form (plan.Drawn drawn) = refl
-
-pub limited_path : (asked : Plan) → plan_path (limited_plan asked) ≡ plan_path asked
-limited_path (plan.Steps listed) = refl
-limited_path (plan.File path) = refl
-limited_path (plan.Drawn drawn) = refl
+limited_form : (asked : Course) → form_of (limited_course asked) ≡ form_of asked
+limited_form (course.Listed listed) = refl
+limited_form (course.Drawn drawn) = refl
 
 seeded : (random : Option (Bor (List ℕ))) (seed : Option ℕ) → IsSeed (option_copied random) seed
     → is_some seed ≡ is_some random
@@ -103,13 +94,13 @@ listed_form : (options : ScheduleOptions) → are_listed options ≡ false
     → form_asked options ≡ Some (is_some options.events)
 listed_form options unlisted = rw unlisted refl
 
-pub limited_out : (options : ScheduleOptions) (asked : Plan) (cores : ℕ) (steps : List (Pick × Outcome))
-    → IsAskedDraw options asked →
-    plan_form asked ≡ form_asked options → are_listed options ≡ false → IsPlannedOut (limited_plan asked) cores steps →
+limited_out : (options : ScheduleOptions) (asked : Course) (cores : ℕ) (steps : List (Pick × Outcome))
+    → IsCourseDraw options asked →
+    form_of asked ≡ form_asked options → are_listed options ≡ false → IsOut (limited_course asked) cores steps →
     IsLimitedOut options cores steps
-limited_out options (plan.Steps listed) cores steps draw form unlisted h = let some = listed_form options unlisted in cc
-limited_out options (plan.File path) cores steps draw form unlisted h = let some = listed_form options unlisted in cc
-limited_out options (plan.Drawn drawn) cores steps draw form unlisted h = (
+limited_out options (course.Listed listed) cores steps draw form unlisted h =
+    let some = listed_form options unlisted in cc
+limited_out options (course.Drawn drawn) cores steps draw form unlisted h = (
   drawn.most,
   draw.most,
   subst (λ (b : Bool). IsDrawnOut (not b) cores (min drawn.most most_drawn) steps)
@@ -119,24 +110,19 @@ limited_out options (plan.Drawn drawn) cores steps draw form unlisted h = (
 -- ---- of a session
 
 -- the picks of a schedule that is drawn are those of a run of its board's program
-pub drawn_for : (options : ScheduleOptions) (setup : Setup) (board : Board) (made : Course) (asked : Plan)
-    (picks : List Pick) →
-    IsNew setup.program setup.limits 1000000 board → form_of made ≡ plan_form asked
-    → plan_form asked ≡ form_asked options →
-    ((cores : ℕ) (steps : List (Pick × Outcome)) → IsOut made cores steps → IsPlannedOut asked cores steps) →
-    (are_listed options ≡ false → (cores : ℕ) (steps : List (Pick × Outcome)) → IsPlannedOut asked cores steps
-    → IsLimitedOut options cores steps) →
-    (is_some (form_of made) ≡ true → AreDrawn setup.program setup.limits (IsOut made) picks)
+pub drawn_for : (options : ScheduleOptions) (setup : Setup) (board : Board) (asked : Course) (picks : List Pick) →
+    IsNew setup.program setup.limits 1000000 board → IsCourseDraw options asked → form_of asked ≡ form_asked options →
+    (is_some (form_of (limited_course asked)) ≡ true →
+    AreDrawn setup.program setup.limits (IsOut (limited_course asked)) picks)
     → are_listed options ≡ false →
     AreDrawn board.program board.limits (IsLimitedOut options) picks
-drawn_for options setup board made asked picks new form said out limited ran unlisted =
-    let run = ran (ap is_some (form ∙ said ∙ listed_form options unlisted)) in
+drawn_for options setup board asked picks new draw form ran unlisted =
+    let run = ran (ap is_some (limited_form asked ∙ form ∙ listed_form options unlisted)) in
     let of_setup : AreDrawn setup.program setup.limits (IsLimitedOut options) picks = record {
       steps = run.steps;
       last = run.last;
       ran = run.ran;
-      out = limited unlisted (length setup.program.entries) run.steps
-          (out (length setup.program.entries) run.steps run.out);
+      out = limited_out options asked (length setup.program.entries) run.steps draw form unlisted run.out;
       told = run.told;
     } in
     subst (λ p. AreDrawn p board.limits (IsLimitedOut options) picks) (sym new.program)

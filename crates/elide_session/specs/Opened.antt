@@ -13,8 +13,8 @@ use Rattle.elide_setup.specs.Setup.{IsAsked}
 use Rattle.tm_core.specs.declared.limits.Limits.{Limits}
 use Rattle.tm_core.specs.Theorem.{ShownMachine as Machine}
 use Rattle.elide_setup.specs.declared.machine.Setup.{Setup}
-use Rattle.elide_setup.specs.declared.plan.Plan.{Plan}
-use Rattle.elide_setup.specs.declared.plan.Plan.TheVariants as plan
+use Rattle.elide_setup.specs.declared.plan.Course.{Course}
+use Rattle.elide_setup.specs.declared.plan.Course.TheVariants as course
 use Rattle.elide_places.specs.FileSymbols.{AreSymbolsOf}
 use Rattle.tm_hist.specs.Board.{IsNew, ShownBoard as Board}
 use Rattle.tm_model.specs.declared.outcome.Outcome.{Outcome}
@@ -43,11 +43,10 @@ is_scheduled schedule = is_some schedule.steps || is_some schedule.path || sched
 abbrev pub most_drawn : ℕ
 most_drawn = 1000001
 
--- a plan of which no more are drawn
-abbrev pub limited_plan : Plan → Plan
-limited_plan (plan.Steps listed) = plan.Steps listed
-limited_plan (plan.File path) = plan.File path
-limited_plan (plan.Drawn drawn) = plan.Drawn (record drawn { most = min drawn.most most_drawn })
+-- a course of which no more are drawn
+abbrev pub limited_course : Course → Course
+limited_course (course.Listed listed) = course.Listed listed
+limited_course (course.Drawn drawn) = course.Drawn (record drawn { most = min drawn.most most_drawn })
 
 -- these steps are drawn as the options ask, to the end or until there are so many
 abbrev pub IsLimitedOut : ScheduleOptions → ℕ → List (Pick × Outcome) → Type 0

@@ -1,31 +1,26 @@
 //! What a session begins with, and the fault that ends it early.
 //!
 //! [`opened`] tells faults in this order: the machine's options, the schedule's, FILE, the program, its schedule, the
-//! cores of a list, the board, a draw, the names. A draw is made before the session begins, on a machine of its own, as
+//! names, the cores of a list, the board, a draw. A draw is made before the session begins, on a machine of its own, as
 //! far as a session can ask for it; where no schedule is said, its faults are left out. The board has made no step.
 //! What is asked of it is served by `debugger` and `gdb_server`.
 
-ghost use Rattle.std.specs.Prelude.{◌≡◌, ℕ, IfErr, IfOk, IfSome, List, Option, Some, false, is_some, true};
-ghost use Rattle.elide_session.specs.Opened.{AreDrawn, IsLimitedOut, IsOpened, IsPlan};
-ghost use Rattle.elide_session.specs.Opened.{is_scheduled, limited_plan, says_draw};
+ghost use Rattle.std.specs.Prelude.{◌≡◌, IfErr, IfOk, is_some, true};
+ghost use Rattle.elide_session.specs.Opened.{AreDrawn, IsOpened, IsPlan, is_scheduled, limited_course, says_draw};
 ghost use Rattle.elide_session.specs.Refused.{IsNotOpened, IsUndrawn, session_fault};
-ghost use Rattle.elide_places.specs.FileSymbols.{AreSymbolsOf};
 ghost use Rattle.elide_setup.specs.Drawing.{AreUnder};
 ghost use Rattle.elide_setup.specs.Faults.{fault_number};
-ghost use Rattle.elide_setup.specs.Refused.{IsMisplanned, plan_path};
-ghost use Rattle.elide_setup.specs.Rounds.{IsOut, IsPlannedOut};
-ghost use Rattle.elide_setup.specs.Schedules.{AreAsked, AreOf, ArePlanned, are_listed, form_asked, form_of, plan_form};
+ghost use Rattle.elide_setup.specs.Rounds.{IsOut};
+ghost use Rattle.elide_setup.specs.Schedules.{AreOf, form_of};
 ghost use Rattle.tm_debug.specs.Faults.{session_code};
-ghost use Rattle.tm_model.specs.declared.outcome.Outcome.{Outcome};
-ghost use Rattle.tm_model.specs.declared.outcome.Pick.{Pick};
 
 use debug_command::Names;
 use elide_args::{MachineOptions, ScheduleOptions};
 use elide_device::Silent;
-use elide_places::{Places, symbols_of};
-use elide_program::{Paths, ProgramFile, Settings, read_file};
-use elide_setup::{Course, Drawn, Fault, Plan, Refusal, Setup, new_board, new_machine, planned};
-use std::alloc::{AllocError, Global};
+use elide_places::{FileNames, Wants};
+use elide_program::{Paths, Settings, read_file};
+use elide_setup::{Course, Drawn, Fault, LoadedFile, Refusal, Setup, new_board, new_machine};
+use std::alloc::Global;
 use tm_debug::SessionFault;
 use tm_hist::Board;
 use tm_model::Pick;
@@ -67,14 +62,13 @@ pub fn opened<P: Paths>(
     }
     let settings = Settings::read(machine)?;
     let text = read_file(machine.file, paths)?;
-    let file = ProgramFile::read(alloc, text.as_slice())?;
-    let setup = Setup::of_file(alloc, &settings, &file)?;
-    let board = new_board(alloc, &setup, MOST_STEPS)?;
-    let names = names_of(alloc, &file, text.as_slice(), wants_labels)?;
+    let wants = wants_of(wants_labels);
+    let loaded = LoadedFile::of_text(alloc, &settings, text.as_slice(), wants)?;
+    let board = new_board(alloc, &loaded.setup, MOST_STEPS)?;
     Ok(Opening {
         board,
         plan: Vec::new(alloc),
-        names,
+        names: names_of(loaded.names),
     })
 }
 
@@ -123,58 +117,46 @@ fn opened_scheduled<P: Paths>(
     ensures plan { IfOk result (λ r. IsPlan (P.content paths.old) schedule.now r.board r.plan.items) }
     ensures none { IfErr result (IsNotOpened (P.content paths.old) machine.now schedule.now) }
 {
-    let settings = Settings::read(machine)?;
-    let asked = plan_read(alloc, schedule)?;
-    let text = read_file(machine.file, paths)?;
-    let file = ProgramFile::read(alloc, text.as_slice())?;
-    let (setup, course) = planned(alloc, &settings, asked, &file, paths)?;
-    course.check_cores(setup.program.cores())?;
-    let board = new_board(alloc, &setup, MOST_STEPS)?;
-    let plan = plan_of(alloc, &setup, course)?;
-    let names = names_of(alloc, &file, text.as_slice(), wants_labels)?;
-    Ok(Opening { board, plan, names })
+    let wants = wants_of(wants_labels);
+    let (loaded, course) = LoadedFile::with_course(alloc, machine, schedule, wants, paths)?;
+    let course = limited(course);
+    course.check_cores(loaded.setup.program.cores())?;
+    let board = new_board(alloc, &loaded.setup, MOST_STEPS)?;
+    let plan = plan_of(alloc, &loaded.setup, course)?;
+    Ok(Opening {
+        board,
+        plan,
+        names: names_of(loaded.names),
+    })
 }
 
-// The names of a file of this text.
-fn names_of(
-    alloc: Global,
-    file: &ProgramFile<'_>,
-    text: &[u8],
-    wants_labels: bool,
-) -> Result<Names, AllocError>
-    ensures { IfOk result (λ names. AreSymbolsOf file.now names.symbols.items) }
+// What a session asks of FILE: its symbols, and its places where labels are wanted.
+fn wants_of(wants_labels: bool) -> Wants
+    ensures { result.symbols ≡ true }
 {
-    let symbols = symbols_of(alloc, file)?;
-    let labels = if wants_labels {
-        Places::of_file(alloc, file, text)?.into_labels()
-    } else {
-        Vec::new(alloc)
-    };
-    Ok(Names { symbols, labels })
+    Wants {
+        places: wants_labels,
+        symbols: true,
+    }
 }
 
-// Reads the schedule, of which no more steps are drawn than a session can ask for.
-fn plan_read<'a>(alloc: Global, schedule: &ScheduleOptions<'a>) -> Result<Plan<'a>, Refusal>
-    ensures steps { IfOk result (λ plan. (content : List ℕ → Option (List ℕ)) (picks : List Pick) →
-        ArePlanned content plan picks → AreAsked content schedule.now picks) }
-    ensures listed { IfOk result (λ plan. plan_form plan ≡ form_asked schedule.now) }
-    ensures path { IfOk result (λ plan. IfSome (plan_path plan) (λ path. schedule.now.path ≡ Some path)) }
-    ensures out { IfOk result (λ plan. are_listed schedule.now ≡ false → (cores : ℕ) (steps : List (Pick × Outcome)) →
-        IsPlannedOut plan cores steps → IsLimitedOut schedule.now cores steps) }
-    ensures none { IfErr result (IsMisplanned schedule.now) }
+// The names that a session knows of FILE.
+fn names_of(names: FileNames) -> Names
+    ensures { result.symbols ≡ names.symbols }
 {
-    let plan = Plan::read(alloc, schedule)?;
-    Ok(limited(plan))
+    Names {
+        symbols: names.symbols,
+        labels: names.places.into_labels(),
+    }
 }
 
-// A plan of which no more are drawn.
-fn limited(plan: Plan<'_>) -> Plan<'_>
-    ensures { result ≡ limited_plan plan.entry }
+// A course of which no more steps are drawn than a session can ask for.
+fn limited(course: Course) -> Course
+    ensures { result ≡ limited_course course }
 {
-    match plan {
-        Plan::Steps(steps) => Plan::Steps(steps),
-        Plan::File(path) => Plan::File(path),
-        Plan::Drawn(drawn) => Plan::Drawn(Drawn {
+    match course {
+        Course::Listed(steps) => Course::Listed(steps),
+        Course::Drawn(drawn) => Course::Drawn(Drawn {
             most: drawn.most.min(MOST_DRAWN),
             ..drawn
         }),

@@ -97,3 +97,6 @@ pub none_passed : {A : Type 0} (says : A → Option Action) (xs : List A) (i : �
 unfolding leftmost
 none_passed says xs i others h so_far =
     sym (ap (λ a. or_else a others) (so_far ∙ ap (leftmost says) (drop_all i xs h)))
+
+-- what is looked for from the left
+pub ruleset leftmost_steps = (is_leftmost, is_passed, none_passed)

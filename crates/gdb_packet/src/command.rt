@@ -1,4 +1,5 @@
-//! Commands.
+//! Commands of gdb's remote protocol, as data: questions that change nothing, actions, and what `monitor` asks. Numbers
+//! are as they were sent; whether there is such a thread or address is asked of the target.
 
 ghost use Rattle.std.specs.Prelude.{◌≡◌};
 ghost use Rattle.gdb_packet.specs.Actions.{action_of, entry_says};
@@ -147,7 +148,7 @@ fn says_of(entry: Option<ThreadAction>, thread: u32) -> Option<Action>
 impl Actions {
     /// What a thread is to do, nothing where it is to stand: the leftmost action with this thread, else the leftmost
     /// one without a thread (gdb manual, appendix E.2, `vCont`).
-    #[tactic(auto, using(crate::proofs::Leftmost::is_leftmost, crate::proofs::Leftmost::is_passed, crate::proofs::Leftmost::none_passed))]
+    #[tactic(auto, using(crate::proofs::Leftmost::leftmost_steps))]
     pub fn of(&self, thread: u32) -> Option<Action>
         ensures { result ≡ action_of self.now thread }
     {

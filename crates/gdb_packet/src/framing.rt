@@ -1,4 +1,5 @@
-//! The packet of some bytes.
+//! The packet of some bytes: `$`, the text with its escapes, `#` and the checksum (the GDB manual, "Overview" of the
+//! remote protocol).
 
 ghost use Rattle.std.specs.Prelude.{◌≡◌, ◌+◌, ◌*◌, ◌≤◌, ◌∷◌, ◌++◌, [], Some, length};
 ghost use Rattle.arrayvec.specs.ArrayVec.{array_vec_len};

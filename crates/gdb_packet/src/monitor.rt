@@ -1,4 +1,4 @@
-//! What `monitor` asks.
+//! What `monitor` asks: its words come in hex digits, and one of a few commands comes out, or none.
 
 ghost use Rattle.std.specs.Prelude.{◌<◌, IfSome};
 

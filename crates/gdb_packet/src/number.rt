@@ -1,4 +1,4 @@
-//! Numbers.
+//! Numbers in a packet: hex digits without a sign, at most 2^32 - 1; one that is larger is none.
 
 ghost use Rattle.std.specs.Prelude.{◌≡◌, ◌∷◌, ℕ, List, MatchOption, None, IfSome, ◌<◌};
 ghost use Rattle.hex.specs.Hex.{hex_digit_value};

@@ -1,4 +1,4 @@
-//! The parts of a text.
+//! The parts of a text between separators, from left to right. An escape is taken back before, in `reader`.
 
 ghost use Rattle.std.specs.Prelude.{◌≡◌, ◌==◌};
 ghost use Rattle.std.specs.List.{position};

@@ -1,4 +1,5 @@
-//! A reader of packets.
+//! A reader of packets, which hears a byte at a time: what stands outside of packets, the text, and the two digits of
+//! its checksum. It tells a packet, an acknowledgement or an interrupt as soon as it is whole.
 
 ghost use Rattle.std.specs.Prelude.{◌≡◌, ◌≢◌, ◌∷◌, ◌++◌, [], ℕ, List};
 

@@ -1,24 +1,12 @@
 -- What gdb is shown of a core.
-use Rattle.std.specs.Prelude.{◌≡◌, ℕ, ◌==◌, if◌then◌else◌, List, Option, Some, None, fold, length, unwrap_or}
+use Rattle.std.specs.Prelude.{◌≡◌, ℕ, ◌==◌, if◌then◌else◌, List, Option, None, fold, length, unwrap_or}
 use Rattle.std.specs.FinSet as set
 use Rattle.tm_model.specs.declared.outcome.Outcome.{Outcome}
-use Rattle.tm_model.specs.declared.outcome.Outcome.TheVariants as outcome
 use Rattle.tm_core.specs.Theorem.{view_at}
 use Rattle.tm_hist.specs.Board.{ShownBoard}
+use Rattle.tm_hist.specs.Lines.{status_of}
 use Rattle.tm_hist.specs.Machine.{shown_regs, shown_state}
 use Rattle.gdb_target.specs.declared.shown.CoreShown.{CoreShown}
-
--- the status of an abort
-abbrev pub status_of : Outcome → Option ℕ
-status_of (outcome.Aborted status) = Some status
-status_of (outcome.AbortedBy interference status) = Some status
-status_of outcome.Plain = None
-status_of outcome.Loaded = None
-status_of (outcome.Stopped why) = None
-status_of outcome.Idle = None
-status_of outcome.Begun = None
-status_of outcome.Inside = None
-status_of outcome.Committed = None
 
 -- the status of a step that is an abort of this core
 abbrev pub own_status : ℕ → ℕ × Outcome → Option ℕ

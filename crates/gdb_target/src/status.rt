@@ -7,25 +7,9 @@ ghost use Rattle.std.specs.Prelude.{◌≡◌};
 ghost use Rattle.std.specs.List.{slice_get};
 ghost use Rattle.std.specs.Option.{option_and_then};
 ghost use Rattle.tm_hist.specs.History.{pairs_of};
-ghost use Rattle.gdb_target.specs.Shown.{last_status, own_status, status_of};
+ghost use Rattle.gdb_target.specs.Shown.{last_status, own_status};
 
-use tm_hist::History;
-use tm_model::Outcome;
-
-fn status_of(outcome: Outcome) -> Option<u32>
-    ensures { result ≡ status_of outcome }
-{
-    match outcome {
-        Outcome::Aborted(status) | Outcome::AbortedBy(_, status) => Some(status),
-        Outcome::Plain
-        | Outcome::Loaded
-        | Outcome::Stopped(_)
-        | Outcome::Idle
-        | Outcome::Begun
-        | Outcome::Inside
-        | Outcome::Committed => None,
-    }
-}
+use tm_hist::{History, status_of};
 
 // The status of the step at an index, where it is an abort of this core.
 fn status_at(history: History, index: usize, core: u8) -> Option<u32>

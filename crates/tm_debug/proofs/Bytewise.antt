@@ -3,7 +3,7 @@ use Rattle.std.proofs.Common.{◌≡◌, ℕ, false, List, [], ◌∷◌, ◌++�
 use Rattle.std.proofs.Common.{ap, append-nil, append_assoc, inl, inr}
 use Rattle.std.specs.Prelude.{◌==◌}
 use Rattle.ia_lex.specs.Lines.{lines_of, without_cr}
-use Rattle.tm_debug.specs.declared.line.Line.{Line}
+use Rattle.tm_debug.specs.declared.line.InputLine.{InputLine}
 use Rattle.tm_debug.specs.declared.line.LineStart.{LineStart}
 use Rattle.std.specs.Io.KnownBytes.{Keeps}
 use Rattle.tm_debug.specs.Serving.{BeginsLine, HasNoFeed, IsKept, IsLast, IsLine, ReadsLine}
@@ -40,10 +40,10 @@ reading_more byte other r reads same adds = record {
       (after.0, after.1, before.2 ∙ ap (λ l. r.taken ++ l) after.2 ∙ sym (append_assoc r.taken (byte ∷ []) after.0));
 }
 
-abbrev pub GivesLine : Option (List ℕ) → Option (List ℕ) → Line → Type 0
+abbrev pub GivesLine : Option (List ℕ) → Option (List ℕ) → InputLine → Type 0
 GivesLine old new line = (xs : List ℕ) → old ≡ Some xs → (ys : List ℕ) × (new ≡ Some ys) × ReadsLine line xs ys
 
-pub read_feed : {a b c : Option (List ℕ)} {f g : ℕ} {s : LineStart} (byte : ℕ) (line : Line) → byte ≡ 10
+pub read_feed : {a b c : Option (List ℕ)} {f g : ℕ} {s : LineStart} (byte : ℕ) (line : InputLine) → byte ≡ 10
     → Reading a b f g s → ReadsByte b c (Some byte) →
     ((taken : List ℕ) → IsKept taken s → IsLine (without_cr taken) line) → GivesLine a c line
 read_feed byte line feed r reads gives xs e =
@@ -64,7 +64,7 @@ read_feed byte line feed r reads gives xs e =
       ),
     )
 
-pub read_end : {a b c : Option (List ℕ)} {f g : ℕ} {s : LineStart} (line : Line) → Reading a b f g s
+pub read_end : {a b c : Option (List ℕ)} {f g : ℕ} {s : LineStart} (line : InputLine) → Reading a b f g s
     → ReadsByte b c None → ((taken : List ℕ) → IsKept taken s → IsLast taken line) → GivesLine a c line
 read_end line r reads gives xs e =
     let before = r.input xs e in

@@ -6,8 +6,8 @@ use Rattle.tm_debug.specs.declared.interruption.Interruption.{Interruption}
 use Rattle.ia_lex.specs.Lines.{lines_of}
 use Rattle.text_out.specs.Writing.{Device, Rose, Wrote}
 use Rattle.text_out.proofs.Writing.{wrote_none, wrote_then}
-use Rattle.tm_debug.specs.declared.line.Line.{Line}
-use Rattle.tm_debug.specs.declared.line.Line.TheVariants as read
+use Rattle.tm_debug.specs.declared.line.InputLine.{InputLine}
+use Rattle.tm_debug.specs.declared.line.InputLine.TheVariants as read
 use Rattle.tm_debug.specs.declared.session.Request.{Request}
 use Rattle.tm_debug.specs.declared.session.Request.TheVariants.{Do, Nothing, Refuse}
 use Rattle.debug_command.specs.declared.command.DebugCommand.{DebugCommand}
@@ -130,12 +130,12 @@ serving_new given failed p d = record {
   };
 }
 
-abbrev pub Requests : List Symbol → Request → Line → Type 0
+abbrev pub Requests : List Symbol → Request → InputLine → Type 0
 Requests symbols request line =
     ((text : List ℕ) → IsLine text line → request ≡ request_of symbols text)
     × (line ≡ read.End → request ≡ Do command.Quit)
 
-pub serving_more : {a b c : Option (List ℕ)} {f g h : ℕ} {d0 d1 d2 : Device} (p q s : SessionValue) (line : Line)
+pub serving_more : {a b c : Option (List ℕ)} {f g h : ℕ} {d0 d1 d2 : Device} (p q s : SessionValue) (line : InputLine)
     (request : Request) → Serving a b f g p q d0 d1 → GivesLine b c line → h ≡ g → Requests q.symbols request line
     → (request ≡ Do command.Quit → ⊥) →
     (text : List ℕ) × Replies request q text s × Wrote d1 d2 text → Serving a c f h p s d0 d2
@@ -174,7 +174,7 @@ record Taken (symbols : List Symbol) (xs : List ℕ) (left : Option (List ℕ)) 
   asks : first_request symbols last ≡ request
 
 taken_end : {left : Option (List ℕ)} (symbols : List Symbol) (xs ys bytes : List ℕ) (front : List (List ℕ))
-    (before : List ℕ) (line : Line) (request : Request) → left ≡ Some ys → xs ≡ bytes ++ before
+    (before : List ℕ) (line : InputLine) (request : Request) → left ≡ Some ys → xs ≡ bytes ++ before
     → Closed bytes front before →
     lines_of xs ≡ front ++ lines_of before → Requests symbols request line → line ≡ read.End → before ≡ [] → ys ≡ []
     → Taken symbols xs left front request
@@ -196,7 +196,7 @@ taken_end symbols xs ys bytes front before line request is_left parted closed sp
     }
 
 taken_line : {left : Option (List ℕ)} (symbols : List Symbol) (xs ys bytes : List ℕ) (front : List (List ℕ))
-    (before text : List ℕ) (line : Line) (request : Request) → left ≡ Some ys → xs ≡ bytes ++ before
+    (before text : List ℕ) (line : InputLine) (request : Request) → left ≡ Some ys → xs ≡ bytes ++ before
     → Closed bytes front before →
     Requests symbols request line → IsLine text line
     → (one : FirstLine text before ys) → Taken symbols xs left front request
@@ -220,8 +220,8 @@ taken_line symbols xs ys bytes front before text line request is_left parted clo
       asks = sym (requests.0 text is_line);
     }
 
-takes : {b c : Option (List ℕ)} (xs : List ℕ) (p q : SessionValue) (d0 d1 : Device) (line : Line) (request : Request)
-    → (k : Known xs b p q d0 d1) → GivesLine b c line → Requests q.symbols request line
+takes : {b c : Option (List ℕ)} (xs : List ℕ) (p q : SessionValue) (d0 d1 : Device) (line : InputLine)
+    (request : Request) → (k : Known xs b p q d0 d1) → GivesLine b c line → Requests q.symbols request line
     → Taken q.symbols xs c k.front request
 takes xs p q d0 d1 line request k gives requests =
     let next = gives k.rest k.is_left in
@@ -232,7 +232,7 @@ takes xs p q d0 d1 line request k gives requests =
           requests one.1 one.2
     ]
 
-serving_ends : {a b c : Option (List ℕ)} {f g : ℕ} {d0 d1 d2 : Device} (p q : SessionValue) (line : Line)
+serving_ends : {a b c : Option (List ℕ)} {f g : ℕ} {d0 d1 d2 : Device} (p q : SessionValue) (line : InputLine)
     (request : Request) → Serving a b f g p q d0 d1 → GivesLine b c line → Requests q.symbols request line
     → request ≡ Do command.Quit → Wrote d1 d2 bye_line →
     ServesInput a c p d0 d2 q.board
@@ -282,7 +282,7 @@ fails_to_read p q so_far begins xs e =
     )
 
 -- the answer to the line that was read last was not written whole
-fails_to_write : {a b c : Option (List ℕ)} {f g : ℕ} {d0 d1 d2 : Device} (p q s : SessionValue) (line : Line)
+fails_to_write : {a b c : Option (List ℕ)} {f g : ℕ} {d0 d1 d2 : Device} (p q s : SessionValue) (line : InputLine)
     (request : Request) → Serving a b f g p q d0 d1 → GivesLine b c line → Requests q.symbols request line →
     LastBroken request q d1 d2 s → FailsToWrite a c p d0 d2 s.board
 fails_to_write {a} {b} {c} {f} {g} {d0} {d1} {d2} p q s line request so_far gives requests broken xs e =
@@ -352,7 +352,7 @@ replied_rose : (request : Request) (q s : SessionValue) (d1 d2 : Device) → Rep
 replied_rose request q s d1 d2 broken = prompted_rose q.manner request q s d1 d2 broken
 
 -- the answer to a line wanted memory
-wanted : {a b c : Option (List ℕ)} {f g : ℕ} {d0 d1 : Device} (d2 : Device) (p q s : SessionValue) (line : Line)
+wanted : {a b c : Option (List ℕ)} {f g : ℕ} {d0 d1 : Device} (d2 : Device) (p q s : SessionValue) (line : InputLine)
     (request : Request) → Serving a b f g p q d0 d1 → GivesLine b c line → Requests q.symbols request line
     → WantsMemory request → s ≡ q → Wrote d1 d2 [] → FindsNoMemory a c p d0 d2 s.board
 wanted {a} {b} {c} {f} {g} {d0} {d1} d2 p q s line request so_far gives requests wants same wrote xs e =
@@ -385,7 +385,7 @@ unread p q so_far rose begins = (rose_after so_far.failed rose, fails_to_read p 
 
 -- the answer to `quit` ends the session
 pub left : {a b c : Option (List ℕ)} {f g : ℕ} {d0 d1 : Device} (h : ℕ) (d2 : Device)
-    (p q s : SessionValue) (line : Line)
+    (p q s : SessionValue) (line : InputLine)
     (request : Request) (r : Result (Unit {0}) Interruption) → Serving a b f g p q d0 d1 → GivesLine b c line
     → Requests q.symbols request line → request ≡ Do command.Quit →
     Ends (Responds request q) (RespondsBroken request q) d1 d2 q s r
@@ -406,7 +406,7 @@ left h d2 p q s line request (Err interruption.Read) so_far gives requests quit 
 
 -- a line was not answered whole, with its prompt
 pub unanswered : {a b c : Option (List ℕ)} {f g : ℕ} {d0 d1 : Device} (h : ℕ) (d2 : Device) (p q s : SessionValue)
-    (line : Line) (request : Request) (why : Interruption) → Serving a b f g p q d0 d1 → GivesLine b c line
+    (line : InputLine) (request : Request) (why : Interruption) → Serving a b f g p q d0 d1 → GivesLine b c line
     → Requests q.symbols request line → (request ≡ Do command.Quit → ⊥) →
     Ends (Replies request q) (RepliesBroken request q) d1 d2 q s (Err why)
     → (why ≡ interruption.NoMemory → WantsMemory request)

@@ -12,8 +12,8 @@ use Rattle.debug_command.specs.declared.command.DebugCommand.TheVariants as comm
 use Rattle.debug_command.specs.declared.refusal.CommandRefusal.{CommandRefusal}
 use Rattle.debug_command.specs.declared.refusal.CommandRefusal.TheVariants.{LongLine}
 use Rattle.symbols.specs.declared.symbol.Symbol.{Symbol}
-use Rattle.tm_debug.specs.declared.line.Line.{Line}
-use Rattle.tm_debug.specs.declared.line.Line.TheVariants as read
+use Rattle.tm_debug.specs.declared.line.InputLine.{InputLine}
+use Rattle.tm_debug.specs.declared.line.InputLine.TheVariants as read
 use Rattle.tm_debug.specs.declared.line.LineStart.{LineStart}
 use Rattle.tm_debug.specs.declared.session.Request.{Request}
 use Rattle.tm_debug.specs.declared.session.Request.TheVariants.{Nothing, Refuse, Do}
@@ -266,13 +266,13 @@ abbrev pub IsKept : List ℕ → LineStart → Type 0
 IsKept taken start = is_kept start.long start.row.items taken
 
 -- a line of this text was read
-abbrev pub IsLine : List ℕ → Line → Type 0
+abbrev pub IsLine : List ℕ → InputLine → Type 0
 IsLine line read.End = ⊥
 IsLine line (read.Text row) = (row.items ≡ line) × (length line ≤ 256)
 IsLine line read.Long = 256 < length line
 
 -- at the end of the input a line of these bytes was read, or none
-abbrev pub IsLast : List ℕ → Line → Type 0
+abbrev pub IsLast : List ℕ → InputLine → Type 0
 IsLast text line = ((line ≡ read.End) × (text ≡ [])) ⊎ ((0 < length text) × IsLine text line)
 
 -- these bytes are one line, whatever follows; or nothing follows
@@ -287,7 +287,7 @@ pub record FirstLine (text xs ys : List ℕ) : Type 0 where
   pub ended : IsEnded bytes text ys
 
 -- the first line of xs was read, and ys are left
-abbrev pub ReadsLine : Line → List ℕ → List ℕ → Type 0
+abbrev pub ReadsLine : InputLine → List ℕ → List ℕ → Type 0
 ReadsLine line xs ys = ((line ≡ read.End) × (xs ≡ []) × (ys ≡ []))
     ⊎ ((text : List ℕ) × IsLine text line × FirstLine text xs ys)
 

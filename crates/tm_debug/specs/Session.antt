@@ -491,6 +491,11 @@ Ends whole broken old new from to (Err interruption.Write) = broken old new to
 Ends whole broken old new from to (Err interruption.NoMemory) = (to ≡ from) × Wrote old new []
 Ends whole broken old new from to (Err interruption.Read) = ⊥
 
+-- of a call with this answer, of which a beginning stands where it was broken off
+abbrev pub EndsAnswer : (List ℕ → SessionValue → Type 0) → Device → Device → SessionValue → SessionValue
+    → Result (Unit {0}) Interruption → Type 0
+EndsAnswer answer old new from to result = Ends answer (AnswerStopped answer) old new from to result
+
 abbrev pub answer_result : Result (Unit {0}) WriteFault → Result (Unit {0}) Interruption
 answer_result (Ok done) = Ok done
 answer_result (Err fault) = Err interruption.Write

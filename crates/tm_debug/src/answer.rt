@@ -139,8 +139,8 @@ fn position_of(breakpoints: &[u32], address: u32) -> Option<usize>
     breakpoints.iter().position(|b| *b == address)
 }
 
-// Sets a breakpoint, or says why not.
-fn set(state: &mut SessionState, address: u64) -> Result<(), CommandRefusal>
+/// Sets a breakpoint, or says why not.
+pub fn set_breakpoint(state: &mut SessionState, address: u64) -> Result<(), CommandRefusal>
     ensures { (result, value_of state.new) ≡ set_break (value_of state.old) address }
 {
     if address > u64::from(u32::MAX) {
@@ -157,8 +157,8 @@ fn set(state: &mut SessionState, address: u64) -> Result<(), CommandRefusal>
     Ok(())
 }
 
-// Takes a breakpoint away, or says why not.
-fn unset(state: &mut SessionState, address: u64) -> Result<(), CommandRefusal>
+/// Takes a breakpoint away, or says why not.
+pub fn clear_breakpoint(state: &mut SessionState, address: u64) -> Result<(), CommandRefusal>
     ensures { (result, value_of state.new) ≡ unset_break (value_of state.old) address }
 {
     if address > u64::from(u32::MAX) {
@@ -170,7 +170,8 @@ fn unset(state: &mut SessionState, address: u64) -> Result<(), CommandRefusal>
     Ok(())
 }
 
-fn tell<O: Out>(
+/// Tells that a command was done, or why not.
+pub fn tell_done<O: Out>(
     manner: Manner,
     done: Result<(), CommandRefusal>,
     out: &mut O,
@@ -181,36 +182,6 @@ fn tell<O: Out>(
         Ok(()) => agree(out),
         Err(refusal) => refuse(manner, refusal, out),
     }
-}
-
-/// Sets a breakpoint.
-pub fn set_breakpoint<O: Out>(
-    state: &mut SessionState,
-    address: u64,
-    out: &mut O,
-) -> Result<(), WriteFault>
-    ensures text { Writes (O.device out.old) (O.device out.new)
-        (done_line state.old.manner (set_break (value_of state.old) address).0) result }
-    ensures session { value_of state.new ≡ (set_break (value_of state.old) address).1 }
-{
-    let manner = state.manner;
-    let done = set(state, address);
-    tell(manner, done, out)
-}
-
-/// Takes a breakpoint away.
-pub fn clear_breakpoint<O: Out>(
-    state: &mut SessionState,
-    address: u64,
-    out: &mut O,
-) -> Result<(), WriteFault>
-    ensures text { Writes (O.device out.old) (O.device out.new)
-        (done_line state.old.manner (unset_break (value_of state.old) address).0) result }
-    ensures session { value_of state.new ≡ (unset_break (value_of state.old) address).1 }
-{
-    let manner = state.manner;
-    let done = unset(state, address);
-    tell(manner, done, out)
 }
 
 /// The state line of a core.

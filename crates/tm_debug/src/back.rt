@@ -6,7 +6,7 @@
 
 ghost use Rattle.std.specs.Prelude.{◌≡◌, ◌≤◌, OnErr, OnOk, length};
 ghost use Rattle.text_out.specs.Writing.{Writes};
-ghost use Rattle.tm_debug.specs.Session.{AnswerStopped, BackAnswer, Ends, IsBack, made_line, next_behind, value_of};
+ghost use Rattle.tm_debug.specs.Session.{BackAnswer, EndsAnswer, IsBack, made_line, next_behind, value_of};
 
 use crate::interruption::{Interruption, answer_result};
 use crate::state::SessionState;
@@ -63,8 +63,8 @@ pub fn back<O: Out>(
     count: u64,
     out: &mut O,
 ) -> Result<(), Interruption>
-    ensures { Ends (BackAnswer (value_of state.old) count) (AnswerStopped (BackAnswer (value_of state.old) count))
-        (O.device out.old) (O.device out.new) (value_of state.old) (value_of state.new) result }
+    ensures { EndsAnswer (BackAnswer (value_of state.old) count) (O.device out.old) (O.device out.new)
+        (value_of state.old) (value_of state.new) result }
 {
     let made = state.board.made();
     if count < 1 || count > made {

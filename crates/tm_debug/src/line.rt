@@ -25,7 +25,7 @@ pub type Bytes = ArrayVec<u8, 257>;
 
 /// A line of the input, without its end.
 #[derive(Clone, Debug, Drop)]
-pub enum Line {
+pub enum InputLine {
     /// There is none: the input is at its end.
     End,
     /// At most 256 bytes.
@@ -42,15 +42,15 @@ pub struct LineStart {
 }
 
 // A line of these bytes.
-fn line_of(bytes: &[u8]) -> Line
+fn line_of(bytes: &[u8]) -> InputLine
     ensures { IsLine bytes.now result }
 {
     if bytes.len() > MOST_BYTES {
-        return Line::Long;
+        return InputLine::Long;
     }
     let mut row = Bytes::new();
     let _ = row.try_extend_from_slice(bytes);
-    Line::Text(row)
+    InputLine::Text(row)
 }
 
 impl LineStart {
@@ -75,13 +75,13 @@ impl LineStart {
     }
 
     // The line, where the end of the input follows.
-    fn at_end(&self) -> Line
+    fn at_end(&self) -> InputLine
         ensures { (taken : List ℕ) → IsKept taken self.now → IsLast taken result }
     {
         if self.long {
-            Line::Long
+            InputLine::Long
         } else if self.row.is_empty() {
-            Line::End
+            InputLine::End
         } else {
             line_of(self.row.as_slice())
         }
@@ -89,11 +89,11 @@ impl LineStart {
 
     // The line, where a line feed follows.
     #[tactic(auto, using(crate::proofs::Feeds::still_long))]
-    fn at_feed(&self) -> Line
+    fn at_feed(&self) -> InputLine
         ensures { (taken : List ℕ) → IsKept taken self.now → IsLine (without_cr taken) result }
     {
         if self.long {
-            Line::Long
+            InputLine::Long
         } else {
             line_of(without_cr(self.row.as_slice()))
         }
@@ -114,7 +114,7 @@ fn next_byte<I: In>(input: &mut I) -> Result<Option<u8>, Failed>
 }
 
 /// The next line, which is read a byte at a time, so that nothing behind it is taken.
-pub fn read_line<W: Wait, I: In>(rt: &W, input: &mut I) -> Result<Line, Failed>
+pub fn read_line<W: Wait, I: In>(rt: &W, input: &mut I) -> Result<InputLine, Failed>
     ensures line { IfOk result (λ line. (xs : List ℕ) → I.remaining input.old ≡ Some xs → (ys : List ℕ)
         × (I.remaining input.new ≡ Some ys) × ReadsLine line xs ys) }
     ensures kept { OnOk result (I.failed input.new ≡ I.failed input.old) }

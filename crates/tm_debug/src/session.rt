@@ -12,12 +12,12 @@ ghost use Rattle.tm_debug.specs.Serving.{IsLine, IsSession, Replies, RepliesBrok
 ghost use Rattle.tm_debug.specs.Serving.{TakesMemory, WantsMemory, devices, given_back, request_of};
 ghost use Rattle.tm_debug.specs.Faults.{session_board, session_code};
 
-use crate::answer::{clear_breakpoint, list, mem, regs, set_breakpoint, step};
+use crate::answer::{clear_breakpoint, list, mem, regs, set_breakpoint, step, tell_done};
 use crate::back::back;
 use crate::help::help;
 use crate::input::In;
 use crate::interruption::{Interruption, answer_result};
-use crate::line::{Line, MOST_BYTES, read_line};
+use crate::line::{InputLine, MOST_BYTES, read_line};
 use crate::prompt::prompt;
 use crate::run::run;
 use crate::sets::sets;
@@ -132,8 +132,12 @@ fn act<O: Out>(
         DebugCommand::Run(count) => answer_result(run(state, Way::InTurn, count, out)),
         DebugCommand::Next(count) => answer_result(run(state, Way::AlongPlan, count, out)),
         DebugCommand::Back(count) => back(alloc, state, count, out),
-        DebugCommand::Break(address) => answer_result(set_breakpoint(state, address, out)),
-        DebugCommand::Clear(address) => answer_result(clear_breakpoint(state, address, out)),
+        DebugCommand::Break(address) => {
+            answer_result(tell_done(state.manner, set_breakpoint(state, address), out))
+        }
+        DebugCommand::Clear(address) => {
+            answer_result(tell_done(state.manner, clear_breakpoint(state, address), out))
+        }
         DebugCommand::Regs(core) => answer_result(regs(state, core, out)),
         DebugCommand::Mem(at, count) => answer_result(mem(
             state.manner,
@@ -200,14 +204,14 @@ fn reply<O: Out>(
 }
 
 // What a line requests in this state.
-fn line_request(state: &SessionState, line: &Line) -> Request
+fn line_request(state: &SessionState, line: &InputLine) -> Request
     ensures text { (text : List ℕ) → IsLine text line.now → result ≡ request_of (value_of state.now).symbols text }
-    ensures end { line.now ≡ Line.End → result ≡ Request.Do DebugCommand.Quit }
+    ensures end { line.now ≡ InputLine.End → result ≡ Request.Do DebugCommand.Quit }
 {
     match line {
-        Line::End => Request::Do(DebugCommand::Quit),
-        Line::Text(row) => text_request(state.names.symbols.as_slice(), row.as_slice()),
-        Line::Long => Request::Refuse(CommandRefusal::LongLine),
+        InputLine::End => Request::Do(DebugCommand::Quit),
+        InputLine::Text(row) => text_request(state.names.symbols.as_slice(), row.as_slice()),
+        InputLine::Long => Request::Refuse(CommandRefusal::LongLine),
     }
 }
 

@@ -10,7 +10,7 @@ ghost use Rattle.arrayvec.specs.ArrayVec.{array_vec_len};
 ghost use Rattle.text_out.specs.Number.{hex_digits};
 ghost use Rattle.text_out.specs.Writing.{Writes};
 ghost use Rattle.tm_core.specs.Theorem.{lines_shown, view_at};
-ghost use Rattle.tm_debug.specs.Session.{AnswerStopped, Ends, SetsAnswer, SetsOf, lines_text, value_of, sets_head};
+ghost use Rattle.tm_debug.specs.Session.{EndsAnswer, SetsAnswer, SetsOf, lines_text, value_of, sets_head};
 
 use crate::answer::{core_of, refuse_core};
 use crate::interruption::{Interruption, answer_result};
@@ -103,8 +103,8 @@ pub fn sets<O: Out>(
     core: u64,
     out: &mut O,
 ) -> Result<(), Interruption>
-    ensures { Ends (SetsAnswer (value_of state.now) core) (AnswerStopped (SetsAnswer (value_of state.now) core))
-        (O.device out.old) (O.device out.new) (value_of state.now) (value_of state.now) result }
+    ensures { EndsAnswer (SetsAnswer (value_of state.now) core) (O.device out.old) (O.device out.new)
+        (value_of state.now) (value_of state.now) result }
 {
     let Some(core) = core_of(state, core) else {
         return answer_result(refuse_core(state, out));

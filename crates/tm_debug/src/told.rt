@@ -36,45 +36,21 @@ pub fn make_step(state: &mut SessionState, pick: Pick) -> Result<ToldStep, StepF
     ensures err { OnErr result (value_of state.new ≡ value_of state.old) }
 {
     match state.manner {
-        Manner::Plain => plain_step(state, pick),
-        Manner::Spoken => spoken_step(state, pick),
+        Manner::Plain => Ok(ToldStep {
+            outcome: state.step(pick)?,
+            deed: None,
+        }),
+        Manner::Spoken => {
+            let Some(before) = before_step(state, pick.core) else {
+                return Err(StepFault::NoSuchCore);
+            };
+            let outcome = state.step(pick)?;
+            Ok(ToldStep {
+                outcome,
+                deed: Some(deed_behind(state, &before, pick.core, &outcome)),
+            })
+        }
     }
-}
-
-// The step of a session that tells nothing of what it did.
-fn plain_step(state: &mut SessionState, pick: Pick) -> Result<ToldStep, StepFault>
-    ensures none { result ≡ Err StepFault.NoSuchCore ↔ (length state.old.board.program.entries ≤ pick.core) }
-    ensures full { result ≡ Err StepFault.LimitReached ↔
-        ((pick.core < length state.old.board.program.entries) × IsFull state.old.board) }
-    ensures ok { IfOk result (λ told. IsStep (value_of state.old) pick told.outcome (value_of state.new)) }
-    ensures told { IfOk result (λ told.
-        IsTold Manner.Plain state.old.board pick.core told.outcome state.new.board told.deed) }
-    ensures err { OnErr result (value_of state.new ≡ value_of state.old) }
-{
-    Ok(ToldStep {
-        outcome: state.step(pick)?,
-        deed: None,
-    })
-}
-
-// The step of one that tells what it did.
-fn spoken_step(state: &mut SessionState, pick: Pick) -> Result<ToldStep, StepFault>
-    ensures none { result ≡ Err StepFault.NoSuchCore ↔ (length state.old.board.program.entries ≤ pick.core) }
-    ensures full { result ≡ Err StepFault.LimitReached ↔
-        ((pick.core < length state.old.board.program.entries) × IsFull state.old.board) }
-    ensures ok { IfOk result (λ told. IsStep (value_of state.old) pick told.outcome (value_of state.new)) }
-    ensures told { IfOk result (λ told.
-        IsTold Manner.Spoken state.old.board pick.core told.outcome state.new.board told.deed) }
-    ensures err { OnErr result (value_of state.new ≡ value_of state.old) }
-{
-    let Some(before) = before_step(state, pick.core) else {
-        return Err(StepFault::NoSuchCore);
-    };
-    let outcome = state.step(pick)?;
-    Ok(ToldStep {
-        outcome,
-        deed: Some(deed_behind(state, &before, pick.core, &outcome)),
-    })
 }
 
 // What is known of a core's next step; none, where there is no such core.

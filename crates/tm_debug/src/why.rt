@@ -9,7 +9,7 @@ ghost use Rattle.arrayvec.specs.ArrayVec.{array_vec_len};
 ghost use Rattle.std.specs.Fmt.{decimal};
 ghost use Rattle.text_out.specs.TextLine.{line_end};
 ghost use Rattle.text_out.specs.Writing.{Writes};
-ghost use Rattle.tm_debug.specs.Session.{AnswerStopped, Ends, WhyAnswer, value_of, why_line};
+ghost use Rattle.tm_debug.specs.Session.{EndsAnswer, WhyAnswer, value_of, why_line};
 
 use crate::answer::{core_of, refuse_core};
 use crate::interruption::{Interruption, answer_result};
@@ -29,8 +29,8 @@ pub fn why<O: Out>(
     core: u64,
     out: &mut O,
 ) -> Result<(), Interruption>
-    ensures { Ends (WhyAnswer (value_of state.now) core) (AnswerStopped (WhyAnswer (value_of state.now) core))
-        (O.device out.old) (O.device out.new) (value_of state.now) (value_of state.now) result }
+    ensures { EndsAnswer (WhyAnswer (value_of state.now) core) (O.device out.old) (O.device out.new)
+        (value_of state.now) (value_of state.now) result }
 {
     let Some(core) = core_of(state, core) else {
         return answer_result(refuse_core(state, out));

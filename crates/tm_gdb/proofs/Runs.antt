@@ -6,14 +6,22 @@ use Rattle.tm_gdb.specs.declared.run.Check.{Check}
 use Rattle.tm_gdb.specs.declared.run.Check.TheVariants as check
 use Rattle.tm_gdb.specs.declared.stop.Stop.{Stop}
 use Rattle.tm_gdb.specs.declared.stop.Stop.TheVariants as stop
+use Rattle.tm_gdb.specs.declared.target.Target.{Target}
 use Rattle.tm_gdb.specs.declared.turns.Goers.{Goers}
+use Rattle.tm_gdb.specs.Changes.{DoesOrStays}
 use Rattle.tm_gdb.specs.Moves.{Continues, IsStep, end_core, run_check}
 use Rattle.tm_gdb.specs.Moves.Continues.{ends, goes_on, stands, tells}
-use Rattle.tm_gdb.specs.Values.{TargetValue}
+use Rattle.tm_gdb.specs.Values.{TargetValue, value_of}
 
-pub on_ok : {T E P Q : Type 0} (result : Result T E) → (P → Q) → OnOk result P → OnOk result Q
+on_ok : {T E P Q : Type 0} (result : Result T E) → (P → Q) → OnOk result P → OnOk result Q
 on_ok (Ok done) then holds = then holds
 on_ok (Err fault) then holds = tt
+
+-- what a call does is a case of what it is to do
+pub does_more : {T E : Type 0} {P Q : TargetValue → TargetValue → Type 0} {old new : Target} (result : Result T E)
+    → DoesOrStays P old new result → (P (value_of old) (value_of new) → Q (value_of old) (value_of new))
+    → DoesOrStays Q old new result
+does_more result does then = record { ok = on_ok result then does.ok; err = does.err; same = does.same }
 
 -- a step that tells something ends the run
 pub run_tells : (goers : Goers) (from between to : TargetValue) (pick : Pick) (told : Option Stop) (stop : Stop)

@@ -2,7 +2,7 @@
 use Rattle.std.proofs.Common.{◌≡◌, ℕ, Bool, true, false, List, [], ◌∷◌, ◌++◌, Option, Some, None, option_to_list}
 use Rattle.std.proofs.Common.{refl, sym, ◌∙◌, ap}
 use Rattle.std.proofs.Common.{append-nil, append_assoc, inl, inr, subst}
-use Rattle.std.specs.Prelude.{IfOk, OnOk, Result, Ok, Err}
+use Rattle.std.specs.Prelude.{IfOk, Result, Ok, Err}
 use Rattle.std.specs.Io.KnownBytes.{Keeps}
 use Rattle.gdb_packet.specs.declared.heard.Heard.{Heard}
 use Rattle.gdb_packet.specs.declared.heard.Heard.TheVariants.{Nothing, Packet, Damaged, TooLong, Interrupt}
@@ -15,7 +15,8 @@ use Rattle.text_out.proofs.Writing.{wrote_none, wrote_then}
 use Rattle.tm_hist.specs.Board.{SameBoard, ShownBoard}
 use Rattle.tm_gdb.specs.Serving.{DoesAll, FailsToRead, ServesInput}
 use Rattle.tm_gdb.specs.Sessions.{IsDone, IsWritten, SessionValue}
-use Rattle.tm_gdb.specs.States.{IsHeard}
+use Rattle.tm_gdb.specs.States.{IsHeard, Puts}
+use Rattle.tm_gdb.specs.declared.session.Interruption.{Interruption}
 
 -- one whole more
 does_more : (heard : List Heard) (one : Heard) (bytes own : List ℕ) (from mid to : SessionValue) (told answer : List ℕ)
@@ -273,17 +274,17 @@ fails_to_read {a} {b} {c} reader from to so_far keeps input e =
     )
 
 -- what was heard is this one, of which a text was written, and the session goes on as it was
-pub is_written : {E : Type 0} (result : Result Bool E) (wanted : List ℕ) (heard known : Heard) (from : SessionValue)
+pub is_written : (result : Result Bool Interruption) (wanted : List ℕ) (heard known : Heard) (from : SessionValue)
     (before after : Device) → heard ≡ known
     → ((text : List ℕ) (on : Bool) → IsWritten wanted from text from on → IsDone known from text from on)
-    → OnOk result (Wrote before after wanted) → IfOk result (λ on. on ≡ true)
+    → Puts wanted before after result → IfOk result (λ on. on ≡ true)
     → IfOk result (λ on. (text : List ℕ) × IsDone heard from text from on × Wrote before after text)
 is_written (Ok on) wanted heard known from before after is done wrote goes = (
   wanted,
   subst (λ (h : Heard). IsDone h from wanted from on) (sym is) (done wanted on (refl, refl, goes)),
   wrote,
 )
-is_written (Err fault) wanted heard known from before after is done wrote goes = tt
+is_written (Err fault) wanted heard known from before after is done failed goes = tt
 
 -- and of which nothing was written
 pub none_written : (heard known : Heard) (from : SessionValue) (device : Device) → heard ≡ known

@@ -1,4 +1,5 @@
 pub mod Values
+pub mod Changes
 pub mod Stops
 pub mod Points
 pub mod Moves

@@ -1,10 +1,14 @@
 -- What a session does of all that it hears in its input, one after another.
 use Rattle.std.specs.Prelude.{◌≡◌, ◌⊎◌, ℕ, Bool, true, false, List, [], ◌∷◌, ◌++◌, Option, Some, None}
+use Rattle.std.specs.Prelude.{Result, Ok, Err}
 use Rattle.gdb_packet.specs.declared.heard.Heard.{Heard}
 use Rattle.gdb_packet.specs.declared.reader.Reader.{Reader}
 use Rattle.gdb_packet.specs.Reading.{Is, IsBehind}
-use Rattle.text_out.specs.Writing.{Device, Wrote}
-use Rattle.tm_hist.specs.Board.{ShownBoard}
+use Rattle.text_out.specs.Writing.{Device, Rose, Wrote}
+use Rattle.tm_debug.specs.Serving.{Devices}
+use Rattle.tm_debug.specs.declared.session.SessionFault.{SessionFault}
+use Rattle.tm_debug.specs.declared.session.SessionFault.TheVariants as fault
+use Rattle.tm_hist.specs.Board.{SameBoard, ShownBoard}
 use Rattle.tm_model.specs.declared.outcome.Pick.{Pick}
 use Rattle.tm_gdb.specs.Sessions.{IsDone, SessionValue}
 use Rattle.tm_gdb.specs.Values.{start_with}
@@ -82,3 +86,15 @@ abbrev pub FailsToRead : Option (List ℕ) → Option (List ℕ) → SessionValu
 FailsToRead input left from old new board = (bytes : List ℕ) → input ≡ Some bytes → (rest : List ℕ) × (text : List ℕ)
     × (to : SessionValue) × (left ≡ Some rest) × ServesFront bytes rest from text to × (to.target.board ≡ board)
     × Wrote old new text
+
+-- a session with this board along this plan, by what it gives back: it went to its end, its input or its output failed,
+-- whose count of failures rose, or it found no memory; in each case the board keeps its program and its limits
+abbrev pub IsSession : ShownBoard → Option (List Pick) → Devices → Devices → Result ShownBoard SessionFault → Type 0
+IsSession first plan old new (Ok board) =
+    SameBoard first board × ServesInput old.left new.left (start first plan) old.out new.out board
+IsSession first plan old new (Err (fault.Read board)) =
+    SameBoard first board × Rose old.failed new.failed
+    × FailsToRead old.left new.left (start first plan) old.out new.out board
+IsSession first plan old new (Err (fault.Write board)) =
+    SameBoard first board × Rose old.out.failures new.out.failures
+IsSession first plan old new (Err (fault.NoMemory board)) = SameBoard first board

@@ -39,6 +39,7 @@ stop_of outcome.Inside = None
 stop_of outcome.Committed = None
 stop_of (outcome.Aborted status) = None
 stop_of (outcome.AbortedBy interference status) = None
+stop_of outcome.Drained = None
 
 -- SIGTRAP is 5, SIGILL 4, SIGFPE 8 and SIGSEGV 11
 abbrev pub signal_digits : Signal → List ℕ

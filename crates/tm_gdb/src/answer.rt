@@ -4,20 +4,20 @@
 //! made. A move that names a thread which there is not is refused before a step is made. Where memory is refused,
 //! the target is as before. Moves are made in `moves`, `run` and `back`; `session` puts packets around the answers.
 
-ghost use Rattle.std.specs.Prelude.{◌≡◌, ◌≤◌, [], OnErr, OnOk, codes, false, length, true};
+ghost use Rattle.std.specs.Prelude.{◌≡◌, ◌≤◌, [], OnOk, codes, false, length, true};
 ghost use Rattle.tm_hist.specs.Board.{SameBoard};
 ghost use Rattle.tm_gdb.specs.Answers.{Answers, ChoosesForMoves, InsertsAt, Moves, MovesUnless, Sets, Tells, asked_of};
 ghost use Rattle.tm_gdb.specs.Answers.{done_text, is_refused, removed};
 ghost use Rattle.tm_gdb.specs.Answers.{selecting, thread_text};
-ghost use Rattle.tm_gdb.specs.Stops.{stop_text};
-ghost use Rattle.tm_gdb.specs.Values.{core_of, cores_of, thread_core, value_of};
+ghost use Rattle.tm_gdb.specs.Changes.{DoesOrStays};
+ghost use Rattle.tm_gdb.specs.Values.{thread_core, value_of};
 
 use crate::monitor::monitor_text;
 use crate::stop::push_stop;
 use crate::target::Target;
 use crate::tell::{tell_description, tell_memory, tell_register, tell_registers, tell_threads};
 use crate::turns::names_stranger;
-use gdb_packet::{Bytes, Command, Monitor, Move, Point, PointKind, Question, Setting, Span};
+use gdb_packet::{Bytes, Command, Monitor, Move, PointKind, Question, Setting, Span};
 use gdb_target::{push_thread, push_threads};
 use std::alloc::{AllocError, Global};
 use text_out::page::push;
@@ -114,25 +114,17 @@ fn ask(
     row: &mut Bytes,
 ) -> Result<(), AllocError>
     requires { row.old.items ≡ [] }
-    ensures tells { OnOk result (Tells asked (value_of target.old) row.new.items) }
-    ensures ok { OnOk result (value_of target.new ≡ asked_of asked (value_of target.old)) }
-    ensures err { OnErr result (value_of target.new ≡ value_of target.old) }
-    ensures same { SameBoard target.old.board target.new.board }
+    ensures { DoesOrStays (λ from to. Answers (Command.Ask asked) from row.new.items to)
+        target.old target.new result }
 {
-    match tell(alloc, target, asked, row) {
-        Ok(()) => {
-            note(target, asked);
-            Ok(())
-        }
-        Err(fault) => Err(fault),
-    }
+    tell(alloc, target, asked, row)?;
+    note(target, asked);
+    Ok(())
 }
 
 // Moves the target. `AllocError`, where there was no memory for the board of the first steps: then it is as before.
 fn make_move(alloc: Global, target: &mut Target, asked: &Move) -> Result<(), AllocError>
-    ensures ok { OnOk result (Moves asked.now (value_of target.old) (value_of target.new)) }
-    ensures err { OnErr result (value_of target.new ≡ value_of target.old) }
-    ensures same { SameBoard target.old.board target.new.board }
+    ensures { DoesOrStays (Moves asked.now) target.old target.new result }
 {
     match asked {
         Move::Resume(actions) => {
@@ -173,19 +165,12 @@ fn move_and_tell(
     row: &mut Bytes,
 ) -> Result<(), AllocError>
     requires { row.old.items ≡ [] }
-    ensures ok { OnOk result (Moves asked.now (value_of target.old) (value_of target.new)) }
-    ensures text { OnOk result (row.new.items
-        ≡ stop_text (value_of target.new).stop (core_of (value_of target.new))) }
-    ensures err { OnErr result (value_of target.new ≡ value_of target.old) }
-    ensures same { SameBoard target.old.board target.new.board }
+    ensures { DoesOrStays (λ from to. MovesUnless false asked.now from row.new.items to)
+        target.old target.new result }
 {
-    match make_move(alloc, target, asked) {
-        Ok(()) => {
-            push_stop(row, target.stop, target.core());
-            Ok(())
-        }
-        Err(fault) => Err(fault),
-    }
+    make_move(alloc, target, asked)?;
+    push_stop(row, target.stop, target.core());
+    Ok(())
 }
 
 // Carries a move out, or refuses it.
@@ -196,10 +181,8 @@ fn carry(
     row: &mut Bytes,
 ) -> Result<(), AllocError>
     requires { row.old.items ≡ [] }
-    ensures ok { OnOk result (MovesUnless (is_refused asked.now (cores_of (value_of target.old))) asked.now
-        (value_of target.old) row.new.items (value_of target.new)) }
-    ensures err { OnErr result (value_of target.new ≡ value_of target.old) }
-    ensures same { SameBoard target.old.board target.new.board }
+    ensures { DoesOrStays (λ from to. Answers (Command.Move asked.now) from row.new.items to)
+        target.old target.new result }
 {
     if is_refused(asked, target.board.cores()) {
         push(row, b"E01");
@@ -291,9 +274,7 @@ pub fn carry_out(
     row: &mut Bytes,
 ) -> Result<(), AllocError>
     requires { row.old.items ≡ [] }
-    ensures ok { OnOk result (Answers command.now (value_of target.old) row.new.items (value_of target.new)) }
-    ensures err { OnErr result (value_of target.new ≡ value_of target.old) }
-    ensures same { SameBoard target.old.board target.new.board }
+    ensures { DoesOrStays (λ from to. Answers command.now from row.new.items to) target.old target.new result }
 {
     match command {
         Command::Ask(asked) => ask(alloc, target, *asked, row),

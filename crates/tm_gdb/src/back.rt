@@ -4,7 +4,7 @@
 //! when it is there. A run back first makes the whole history so, to find the latest step that a point stops, and
 //! then the steps before that one.
 
-ghost use Rattle.std.specs.Prelude.{◌≡◌, ◌+◌, ◌<◌, ◌==◌, Err, IfNone, IfOk, IfSome, OnErr, OnOk, Some, false};
+ghost use Rattle.std.specs.Prelude.{◌≡◌, ◌+◌, ◌<◌, ◌==◌, Err, IfNone, IfOk, IfSome, Some, false};
 ghost use Rattle.std.specs.Prelude.{length, true};
 ghost use Rattle.std.specs.List.{slice_get};
 ghost use Rattle.tm_hist.specs.Back.{IsFirst};
@@ -13,6 +13,7 @@ ghost use Rattle.tm_hist.specs.History.{pairs_of};
 ghost use Rattle.tm_model.specs.declared.outcome.Outcome.{Outcome};
 ghost use Rattle.tm_gdb.specs.Back.{EndsBack, HasNoneFrom, IsAgain, IsLastOf, RunsBack, StepsBack, TakesStepBack};
 ghost use Rattle.tm_gdb.specs.Back.{back_told, excused_at, told_back, watch_or_step};
+ghost use Rattle.tm_gdb.specs.Changes.{DoesOrStays};
 ghost use Rattle.tm_gdb.specs.Values.{moved_core, value_of};
 
 use crate::points::first_changed;
@@ -129,24 +130,16 @@ impl Target {
     fn take_back(&mut self, alloc: Global, core: u8, place: u64) -> Result<(), AllocError>
         requires exists { core < length self.old.board.program.entries }
         requires last { IsLastOf core self.old.board.history place }
-        ensures ok { OnOk result (TakesStepBack core (value_of self.old) place (value_of self.new)) }
-        ensures err { OnErr result (value_of self.new ≡ value_of self.old) }
-        ensures same { SameBoard self.old.board self.new.board }
+        ensures { DoesOrStays (λ from to. TakesStepBack core from place to) self.old self.new result }
     {
-        match first(alloc, &self.board, place) {
-            Ok(board) => {
-                self.stand_before(board, core, place);
-                Ok(())
-            }
-            Err(fault) => Err(fault),
-        }
+        let board = first(alloc, &self.board, place)?;
+        self.stand_before(board, core, place);
+        Ok(())
     }
 
     /// Takes steps back until one of the core of moves is gone, and none where it has made none.
     pub fn step_back(&mut self, alloc: Global) -> Result<(), AllocError>
-        ensures ok { OnOk result (StepsBack (moved_core (value_of self.old)) (value_of self.old) (value_of self.new)) }
-        ensures err { OnErr result (value_of self.new ≡ value_of self.old) }
-        ensures same { SameBoard self.old.board self.new.board }
+        ensures { DoesOrStays (λ from to. StepsBack (moved_core from) from to) self.old self.new result }
     {
         let core = self.moved_core();
         match last_own(&self.board, core) {
@@ -219,23 +212,14 @@ impl Target {
     /// Takes steps back, the newest first, up to the first whose core stands at a breakpoint then or sees other bytes
     /// at a watchpoint, and all where there is none.
     pub fn go_back(&mut self, alloc: Global) -> Result<(), AllocError>
-        ensures ok { OnOk result (RunsBack (value_of self.old) (value_of self.new)) }
-        ensures err { OnErr result (value_of self.new ≡ value_of self.old) }
-        ensures same { SameBoard self.old.board self.new.board }
+        ensures { DoesOrStays RunsBack self.old self.new result }
     {
-        let place = match self.last_place(alloc) {
-            Ok(place) => place,
-            Err(fault) => return Err(fault),
-        };
-        match first(alloc, &self.board, place.made) {
-            Ok(board) => {
-                self.board = board;
-                self.selected = place.core;
-                self.excused = excused_at(place.core, place.stop);
-                self.stop = place.stop;
-                Ok(())
-            }
-            Err(fault) => Err(fault),
-        }
+        let place = self.last_place(alloc)?;
+        let board = first(alloc, &self.board, place.made)?;
+        self.board = board;
+        self.selected = place.core;
+        self.excused = excused_at(place.core, place.stop);
+        self.stop = place.stop;
+        Ok(())
     }
 }

@@ -13,7 +13,7 @@ use std::alloc::{AllocError, Global};
 use text_out::page::{Page, push, push_hex};
 use text_out::{Out, WriteFault};
 use tm_core::Machine;
-use tm_hist::write_outcome;
+use tm_hist::{interference_text, write_outcome};
 use tm_model::Interference;
 use tm_sets::Kind;
 
@@ -50,17 +50,9 @@ event KIND       the next step comes under an interrupt, an eviction or a snoop\
 // The event that the next step comes under.
 fn write_event<O: Out>(by: Interference, out: &mut O) -> Result<(), WriteFault> {
     out.put(b"the next step comes under: ")?;
-    out.put(event_name(by))?;
+    out.put(interference_text(by))?;
     out.put(b"\n")?;
     Ok(())
-}
-
-fn event_name(by: Interference) -> &'static [u8] {
-    match by {
-        Interference::Interrupt => b"interrupt",
-        Interference::Eviction => b"eviction",
-        Interference::Snoop => b"snoop",
-    }
 }
 
 // The lines of the sets of each core, by their addresses.

@@ -5,7 +5,8 @@
 //! otherwise those go on that are to (`run`). Whether actions name threads that there are is asked in `answer`.
 
 ghost use Rattle.std.specs.Prelude.{◌≡◌, ◌<◌, IfSome, length, true};
-ghost use Rattle.tm_hist.specs.Board.{IsFull, SameBoard};
+ghost use Rattle.tm_hist.specs.Board.{SameBoard};
+ghost use Rattle.tm_gdb.specs.Changes.{CanMake};
 ghost use Rattle.tm_gdb.specs.Moves.{Continues, IsOneMore, IsStep, IsStepAlone, Resumes, StepsAlone, can_step};
 ghost use Rattle.tm_gdb.specs.Moves.{continues_by};
 ghost use Rattle.tm_gdb.specs.Moves.{excused_behind, goers_of, selected_goers, stepping_core, told_by};
@@ -22,8 +23,7 @@ use tm_model::{Outcome, Pick};
 
 // The step that a pick tells of, of a core that there is and for which there is room.
 fn make(board: &mut Board, pick: Pick) -> Outcome
-    requires exists { pick.core < length board.old.program.entries }
-    requires room { IsFull board.old → ⊥ }
+    requires { CanMake board.old pick.core }
     ensures { IsOneMore pick.event board.old pick.core result board.new }
 {
     match board.step_by(pick) {
@@ -58,8 +58,7 @@ fn told_by(changed: Option<u32>, outcome: Outcome) -> Option<Stop>
 impl Target {
     /// One step of a pick's core, and what it tells.
     pub fn advance(&mut self, pick: Pick) -> Option<Stop>
-        requires exists { pick.core < length self.old.board.program.entries }
-        requires room { IsFull self.old.board → ⊥ }
+        requires { CanMake self.old.board pick.core }
         ensures { IsStep (value_of self.old) pick result (value_of self.new) }
     {
         let _cores = self.board.cores();

@@ -12,7 +12,7 @@ ghost use Rattle.tm_gdb.specs.Points.{set_watch, sights, stands_at, unset_break,
 ghost use Rattle.tm_gdb.specs.Points.{watched_byte, watched_number};
 
 use arrayvec::ArrayVec;
-use gdb_packet::{Point, PointKind, Span};
+use gdb_packet::Span;
 use tm_core::Machine;
 use tm_model::CoreState;
 

@@ -5,7 +5,8 @@
 //! goes along the schedule; any other goes round by round (`turns`).
 
 ghost use Rattle.std.specs.Prelude.{◌≡◌, ◌+◌, ◌<◌, IfSome, Some, false, length, true};
-ghost use Rattle.tm_hist.specs.Board.{IsFull, SameBoard};
+ghost use Rattle.tm_hist.specs.Board.{SameBoard};
+ghost use Rattle.tm_gdb.specs.Changes.{CanMake};
 ghost use Rattle.tm_gdb.specs.Moves.{Continues, end_core, is_excused, is_to_tell, known_pick, next_pick, pick_check};
 ghost use Rattle.tm_gdb.specs.Moves.{planned_pick, run_check};
 ghost use Rattle.tm_gdb.specs.Values.{TargetValue, value_of};
@@ -89,8 +90,7 @@ impl Target {
     fn check_pick(&self, pick: Pick) -> Check
         requires { pick.core < length self.now.board.program.entries }
         ensures check { result ≡ pick_check (Some pick) (value_of self.now) }
-        ensures room { (go : Pick) → result ≡ Check.Go go → (go.core < length self.now.board.program.entries)
-            × (IsFull self.now.board → ⊥) }
+        ensures room { (go : Pick) → result ≡ Check.Go go → CanMake self.now.board go.core }
     {
         if self.board.made() == self.board.limit() {
             Check::End
@@ -104,8 +104,7 @@ impl Target {
     // The tests before a step of a run.
     fn check(&self, goers: &Goers) -> Check
         ensures check { result ≡ run_check goers.now (value_of self.now) }
-        ensures room { (go : Pick) → result ≡ Check.Go go → (go.core < length self.now.board.program.entries)
-            × (IsFull self.now.board → ⊥) }
+        ensures room { (go : Pick) → result ≡ Check.Go go → CanMake self.now.board go.core }
     {
         match self.next_pick(goers) {
             Some(pick) => self.check_pick(pick),
@@ -146,8 +145,7 @@ impl Target {
 
     // The step of a run by a pick whose turn it is. Whether the run goes on.
     fn go(&mut self, goers: &Goers, pick: Pick) -> bool
-        requires exists { pick.core < length self.old.board.program.entries }
-        requires room { IsFull self.old.board → ⊥ }
+        requires room { CanMake self.old.board pick.core }
         requires turn { run_check goers.now (value_of self.old) ≡ Check.Go pick }
         ensures goes { result ≡ true → (to : TargetValue) → Continues goers.now (value_of self.new) to
             → Continues goers.now (value_of self.old) to }

@@ -4,21 +4,21 @@
 //! goes on; then it is carried out (`answer`), and its answer written and kept, in case gdb asks to hear it once
 //! more. How packets and commands are read is `gdb_packet`'s.
 
-ghost use Rattle.std.specs.Prelude.{◌≡◌, ◌∷◌, ◌++◌, ℕ, Bool, List, Err, IfErr, IfOk, IfSome, None, OnErr, OnOk, Some};
-ghost use Rattle.std.specs.Prelude.{[], not};
+ghost use Rattle.std.specs.Prelude.{◌≡◌, ◌∷◌, ◌++◌, ℕ, List, Err, IfErr, IfOk, None, OnErr, OnOk, Some};
+ghost use Rattle.std.specs.Prelude.{[]};
 ghost use Rattle.std.specs.Prelude.{false, option_to_list, true};
 ghost use Rattle.std.specs.Io.KnownBytes.{Keeps};
 ghost use Rattle.gdb_packet.specs.Packet.{framed};
 ghost use Rattle.gdb_packet.specs.Reading.{Hears, IsBehind};
 ghost use Rattle.text_out.specs.Writing.{Rose, Wrote};
 ghost use Rattle.tm_hist.specs.Board.{SameBoard};
-ghost use Rattle.tm_debug.specs.Faults.{session_board, session_code};
+ghost use Rattle.tm_debug.specs.Serving.{devices};
 ghost use Rattle.tm_gdb.specs.Answers.{Answers};
-ghost use Rattle.tm_gdb.specs.Serving.{FailsToRead, ServesInput, start};
+ghost use Rattle.tm_gdb.specs.Serving.{FailsToRead, IsSession, ServesInput, start};
 ghost use Rattle.tm_gdb.specs.Sessions.{IsAnswered, IsDone, acknowledgement, acknowledges_behind, again_text, is_end};
 ghost use Rattle.tm_gdb.specs.Sessions.{reply_text};
-ghost use Rattle.tm_gdb.specs.States.{IsHeard, session_value};
-ghost use Rattle.tm_gdb.specs.Values.{picks_in, start_with, value_of};
+ghost use Rattle.tm_gdb.specs.States.{IsAnswering, IsHeard, Puts, session_value};
+ghost use Rattle.tm_gdb.specs.Values.{picks_in, value_of};
 
 use crate::answer::carry_out;
 use crate::target::Target;
@@ -54,9 +54,7 @@ pub struct Session {
 
 // Writes bytes.
 fn put<O: Out>(bytes: &[u8], out: &mut O) -> Result<(), Interruption>
-    ensures wrote { OnOk result (Wrote (O.device out.old) (O.device out.new) bytes.now) }
-    ensures err { IfErr result (λ fault. fault ≡ Interruption.Write) }
-    ensures rose { OnErr result (Rose (O.device out.old).failures (O.device out.new).failures) }
+    ensures { Puts bytes.now (O.device out.old) (O.device out.new) result }
 {
     match out.put(bytes) {
         Ok(()) => Ok(()),
@@ -67,9 +65,7 @@ fn put<O: Out>(bytes: &[u8], out: &mut O) -> Result<(), Interruption>
 // Writes the packet that tells these bytes.
 #[inline(never)]
 fn put_packet<O: Out>(bytes: &Bytes, out: &mut O) -> Result<(), Interruption>
-    ensures wrote { OnOk result (Wrote (O.device out.old) (O.device out.new) (framed bytes.now.items)) }
-    ensures err { IfErr result (λ fault. fault ≡ Interruption.Write) }
-    ensures rose { OnErr result (Rose (O.device out.old).failures (O.device out.new).failures) }
+    ensures { Puts (framed bytes.now.items) (O.device out.old) (O.device out.new) result }
 {
     match write_packet(bytes.as_slice(), out) {
         Ok(()) => Ok(()),
@@ -79,10 +75,7 @@ fn put_packet<O: Out>(bytes: &Bytes, out: &mut O) -> Result<(), Interruption>
 
 // Writes the answer to a command. `k` wants none: gdb goes without a word.
 fn put_reply<O: Out>(command: &Command, answer: &Bytes, out: &mut O) -> Result<(), Interruption>
-    ensures wrote { OnOk result (Wrote (O.device out.old) (O.device out.new)
-        (reply_text command.now answer.now.items)) }
-    ensures err { IfErr result (λ fault. fault ≡ Interruption.Write) }
-    ensures rose { OnErr result (Rose (O.device out.old).failures (O.device out.new).failures) }
+    ensures { Puts (reply_text command.now answer.now.items) (O.device out.old) (O.device out.new) result }
 {
     match command {
         Command::Ask(Question::Kill) => Ok(()),
@@ -157,10 +150,7 @@ impl Session {
             × Wrote (O.device out.old) (O.device out.new) (reply_text command.now answer)) }
         ensures reader { self.new.reader ≡ self.old.reader }
         ensures acknowledges { self.new.acknowledges ≡ self.old.acknowledges }
-        ensures same { SameBoard self.old.target.board self.new.target.board }
-        ensures read { result ≡ Err Interruption.Read → ⊥ }
-        ensures rose { result ≡ Err Interruption.Write
-            → Rose (O.device out.old).failures (O.device out.new).failures }
+        ensures answering { IsAnswering self.old self.new (O.device out.old) (O.device out.new) result }
     {
         let mut row = Bytes::new();
         match carry_out(alloc, &mut self.target, command, &mut row) {
@@ -183,10 +173,7 @@ impl Session {
             × IsAnswered packet.now (session_value self.old) text (session_value self.new) goes_on
             × Wrote (O.device out.old) (O.device out.new) text) }
         ensures reader { self.new.reader ≡ self.old.reader }
-        ensures same { SameBoard self.old.target.board self.new.target.board }
-        ensures read { result ≡ Err Interruption.Read → ⊥ }
-        ensures rose { result ≡ Err Interruption.Write
-            → Rose (O.device out.old).failures (O.device out.new).failures }
+        ensures answering { IsAnswering self.old self.new (O.device out.old) (O.device out.new) result }
     {
         let command = read_command(packet);
         self.acknowledge(out)?;
@@ -198,10 +185,7 @@ impl Session {
 
     // Tells gdb that a packet was received, where it wants to know.
     fn acknowledge<O: Out>(&self, out: &mut O) -> Result<(), Interruption>
-        ensures wrote { OnOk result (Wrote (O.device out.old) (O.device out.new)
-            (acknowledgement self.now.acknowledges)) }
-        ensures err { IfErr result (λ fault. fault ≡ Interruption.Write) }
-        ensures rose { OnErr result (Rose (O.device out.old).failures (O.device out.new).failures) }
+        ensures { Puts (acknowledgement self.now.acknowledges) (O.device out.old) (O.device out.new) result }
     {
         if self.acknowledges {
             put(b"+", out)
@@ -233,10 +217,7 @@ impl Session {
             × IsDone heard.now (session_value self.old) text (session_value self.new) goes_on
             × Wrote (O.device out.old) (O.device out.new) text) }
         ensures reader { self.new.reader ≡ self.old.reader }
-        ensures same { SameBoard self.old.target.board self.new.target.board }
-        ensures read { result ≡ Err Interruption.Read → ⊥ }
-        ensures rose { result ≡ Err Interruption.Write
-            → Rose (O.device out.old).failures (O.device out.new).failures }
+        ensures answering { IsAnswering self.old self.new (O.device out.old) (O.device out.new) result }
     {
         match heard {
             Heard::Packet(bytes) => self.respond(alloc, bytes.as_slice(), out),
@@ -254,10 +235,7 @@ impl Session {
     fn hear<O: Out>(&mut self, alloc: Global, byte: u8, out: &mut O) -> Result<bool, Interruption>
         ensures heard { IfOk result (λ goes_on. IsHeard byte self.old.reader self.new.reader (session_value self.old)
             (session_value self.new) goes_on (O.device out.old) (O.device out.new)) }
-        ensures same { SameBoard self.old.target.board self.new.target.board }
-        ensures read { result ≡ Err Interruption.Read → ⊥ }
-        ensures rose { result ≡ Err Interruption.Write
-            → Rose (O.device out.old).failures (O.device out.new).failures }
+        ensures answering { IsAnswering self.old self.new (O.device out.old) (O.device out.new) result }
     {
         let heard = self.hear_byte(byte);
         self.act(alloc, &heard, out)
@@ -265,33 +243,24 @@ impl Session {
 
     // Writes the last answer once more, if there was one.
     fn resend<O: Out>(&self, out: &mut O) -> Result<bool, Interruption>
-        ensures wrote { OnOk result (Wrote (O.device out.old) (O.device out.new)
-            (again_text (session_value self.now).last)) }
+        ensures puts { Puts (again_text (session_value self.now).last) (O.device out.old) (O.device out.new) result }
         ensures on { IfOk result (λ goes_on. goes_on ≡ true) }
-        ensures err { IfErr result (λ fault. fault ≡ Interruption.Write) }
-        ensures rose { OnErr result (Rose (O.device out.old).failures (O.device out.new).failures) }
     {
         let Some(last) = &self.last else {
             return Ok(true);
         };
-        match put_packet(last, out) {
-            Ok(()) => Ok(true),
-            Err(fault) => Err(fault),
-        }
+        put_packet(last, out)?;
+        Ok(true)
     }
 }
 
 // Tells gdb to send its packet once more.
 fn refuse<O: Out>(out: &mut O) -> Result<bool, Interruption>
-    ensures wrote { OnOk result (Wrote (O.device out.old) (O.device out.new) (45 ∷ [])) }
+    ensures puts { Puts (45 ∷ []) (O.device out.old) (O.device out.new) result }
     ensures on { IfOk result (λ goes_on. goes_on ≡ true) }
-    ensures err { IfErr result (λ fault. fault ≡ Interruption.Write) }
-    ensures rose { OnErr result (Rose (O.device out.old).failures (O.device out.new).failures) }
 {
-    match put(b"-", out) {
-        Ok(()) => Ok(true),
-        Err(fault) => Err(fault),
-    }
+    put(b"-", out)?;
+    Ok(true)
 }
 
 // Hears the bytes of the input, up to its end or that of the session.
@@ -341,16 +310,9 @@ pub fn serve<W: Wait, I: In, O: Out>(
     input: &mut I,
     out: &mut O,
 ) -> Result<Board, SessionFault>
-    ensures ok { IfOk result (ServesInput (I.remaining input.old) (I.remaining input.new) (start board (picks_in plan))
-        (O.device out.old) (O.device out.new)) }
-    ensures same { IfOk result (SameBoard board) }
-    ensures fault { IfErr result (λ fault. SameBoard board (session_board fault)) }
-    ensures read { IfErr result (λ fault. session_code fault ≡ 76 → Rose (I.failed input.old) (I.failed input.new)) }
-    ensures read_packets { IfErr result (λ fault. session_code fault ≡ 76
-        → FailsToRead (I.remaining input.old) (I.remaining input.new) (start board (picks_in plan)) (O.device out.old)
-        (O.device out.new) (session_board fault)) }
-    ensures write { IfErr result (λ fault. session_code fault ≡ 77
-        → Rose (O.device out.old).failures (O.device out.new).failures) }
+    ensures { IsSession board (picks_in plan)
+        (devices (I.failed input.old) (I.remaining input.old) (O.device out.old))
+        (devices (I.failed input.new) (I.remaining input.new) (O.device out.new)) result }
 {
     let mut session = Session::new(board, plan);
     match serve_bytes(rt, alloc, &mut session, input, out) {

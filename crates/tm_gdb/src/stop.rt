@@ -84,7 +84,8 @@ pub fn stop_of(outcome: Outcome) -> Option<Stop>
         | Outcome::Inside
         | Outcome::Committed
         | Outcome::Aborted(_)
-        | Outcome::AbortedBy(_, _) => None,
+        | Outcome::AbortedBy(_, _)
+        | Outcome::Drained => None,
     }
 }
 

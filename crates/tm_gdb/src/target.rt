@@ -4,6 +4,7 @@
 //! [`Target`] makes no step here: steps forward are in `moves` and `run`, those back in `back`.
 
 ghost use Rattle.std.specs.Prelude.{◌≡◌, ◌<◌, IfSome, length};
+ghost use Rattle.tm_gdb.specs.Changes.{HasCore};
 ghost use Rattle.tm_gdb.specs.Values.{core_in, core_of, moved_core, picks_in, start_with, thread_core, value_of};
 
 use crate::points::Points;
@@ -53,9 +54,7 @@ impl Target {
     // This core, and the first where the board has it not.
     fn core_in(&self, core: u8) -> u8
         ensures core { result ≡ core_in (value_of self.now) core }
-        ensures views { result < length self.now.board.machine.views }
-        ensures entries { result < length self.now.board.program.entries }
-        ensures few { result < 64 }
+        ensures exists { HasCore self.now.board result }
     {
         // A machine has at least one core.
         let _some = self.board.machine().cores();
@@ -65,9 +64,7 @@ impl Target {
     /// The core that questions are about, which the board has.
     pub fn core(&self) -> u8
         ensures core { result ≡ core_of (value_of self.now) }
-        ensures views { result < length self.now.board.machine.views }
-        ensures entries { result < length self.now.board.program.entries }
-        ensures few { result < 64 }
+        ensures exists { HasCore self.now.board result }
     {
         self.core_in(self.selected)
     }
@@ -75,9 +72,7 @@ impl Target {
     /// The core of moves: the one that was chosen for them, else the selected one.
     pub fn moved_core(&self) -> u8
         ensures core { result ≡ moved_core (value_of self.now) }
-        ensures views { result < length self.now.board.machine.views }
-        ensures entries { result < length self.now.board.program.entries }
-        ensures few { result < 64 }
+        ensures exists { HasCore self.now.board result }
     {
         match self.for_moves {
             Some(core) => self.core_in(core),

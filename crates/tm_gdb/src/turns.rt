@@ -4,7 +4,6 @@
 //! holds behind steps back. Cores that have stopped are passed over. A schedule is asked before, in `run`.
 
 ghost use Rattle.std.specs.Prelude.{◌≡◌, ◌+◌, ◌^◌, ◌<◌, ◌≤◌, IfSome, length};
-ghost use Rattle.gdb_packet.specs.Actions.{action_of};
 ghost use Rattle.tm_gdb.specs.Moves.{all_continue, continues, goer_from, goers_of, goes, going_from, is_continue};
 ghost use Rattle.tm_gdb.specs.Moves.{is_step, is_stranger, names_stranger};
 ghost use Rattle.tm_gdb.specs.Moves.{plainly, some_continue, stepping_from, steps, turn_pick};

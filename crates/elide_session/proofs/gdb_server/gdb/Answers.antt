@@ -19,5 +19,5 @@ returns-in-Ok g c =
           (g.I.In.remaining c.serve.new.input) (start opened.board plan) (g.O.Out.device c.args.out.now)
           (g.O.Out.device c.serve.new.out) c.in-Ok._board)
           (c.asked_for-plan.ensures ∙ ap (λ b. if b then Some opened.plan.items else None) c.is_scheduled.ensures)
-          c.in-Ok.ensures.ok;
+          c.in-Ok.ensures.1;
     }

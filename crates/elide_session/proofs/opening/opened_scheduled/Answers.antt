@@ -1,140 +1,67 @@
-use Rattle.std.proofs.Common.{ℕ, List, refl, subst, sym}
+use Rattle.std.proofs.Common.{◌≡◌, ℕ, List, ap, refl, subst, sym, true}
 use Rattle.std.proofs.lemmas.Result.{err_from_is_err_and}
-use Rattle.elide_setup.proofs.Refusing.{not_scheduled as of_planned}
-use Rattle.elide_setup.proofs.Schedules.{planned_before}
-use Rattle.elide_program.specs.Files.{Gives, most_bytes}
-use Rattle.elide_program.specs.ProgramFile.{IsFile}
-use Rattle.elide_setup.specs.Refused.{NamesNoCore, misplanned, misread, no_program, no_setup, not_read}
-use Rattle.elide_setup.specs.Schedules.{listed_in}
-use Rattle.elide_setup.specs.Setup.{IsAsked}
-use Rattle.elide_session.proofs.Plans.{drawn_for}
-use Rattle.elide_session.specs.Refused.{beyond, boardless, undrawn, unscheduled, without_program}
+use Rattle.std.specs.Prelude.{is_some}
+use Rattle.elide_places.specs.FileSymbols.{AreSymbolsOf}
+use Rattle.elide_setup.specs.Refused.{NamesNoCore}
+use Rattle.elide_setup.specs.Rounds.{IsOut}
+use Rattle.elide_setup.specs.Schedules.{AreOf, form_of, listed_in}
+use Rattle.elide_setup.specs.declared.plan.Course.{Course}
+use Rattle.symbols.specs.declared.symbol.Symbol.{Symbol}
+use Rattle.elide_session.proofs.Plans.{drawn_for, limited_steps}
+use Rattle.elide_session.specs.Opened.{AreDrawn}
+use Rattle.elide_session.specs.Refused.{beyond, boardless, undrawn, unscheduled}
 use Rattle.elide_session.proofs.opening.opened_scheduled.Goals as goal
 
 pub returns-clause-opened : goal.returns-clause-opened
-returns-clause-opened g c = record {
-  setup = c.in_ok-setup.setup;
-  asked = record {
-    file = c.in_ok-file.file;
-    read = record {
-      text = c.in_ok-text.text.items;
-      given = c.in_ok-text.ensures.given;
-      read =
-          subst (λ (text : List ℕ). IsFile text c.in_ok-file.file) c.as_slice.ensures.value c.in_ok-file.ensures.file;
-    };
-    settings = c.in_ok-settings.settings;
-    said = c.in_ok-settings.ensures.settings;
-    made = c.in_ok-setup.ensures.setup;
-  };
-  new = c.in_ok-board.ensures.made;
-  named = c.in_ok-names.ensures;
-}
+returns-clause-opened g c =
+    let loaded = c.in_ok-loaded.ensures.loaded in
+    record {
+      setup = c.in_ok-loaded.loaded.setup;
+      asked = loaded.setup;
+      new = c.in_ok-board.ensures.made;
+      named = subst (λ symbols. AreSymbolsOf loaded.setup.file symbols.items) (sym c.names_of.ensures)
+          (loaded.named c.wants_of-wants.ensures);
+    }
 
 pub returns-clause-plan : goal.returns-clause-plan
 returns-clause-plan g c =
-    let before = g.P.Paths.content c.args.paths.now in
+    let loaded = c.in_ok-loaded.ensures.loaded in
+    let setup = c.in_ok-loaded.loaded.setup in
     let picks = c.in_ok-plan.plan.items in
     record {
-      asked = λ _. c.in_ok-asked.ensures.steps before picks
-          (planned_before before (g.P.Paths.content c.read_file.new.paths) c.in_ok-asked.asked picks
-          c.read_file.ensures.kept (c.in_ok-setup.ensures.course picks c.in_ok-plan.ensures.picks));
-      drawn = λ _ unlisted. drawn_for c.args.schedule.now c.in_ok-setup.setup c.in_ok-board.board c.in_ok-setup.course
-          c.in_ok-asked.asked picks
-          c.in_ok-board.ensures.made c.in_ok-setup.ensures.listed c.in_ok-asked.ensures.listed c.in_ok-setup.ensures.out
-          c.in_ok-asked.ensures.out c.in_ok-plan.ensures.drawn unlisted;
+      asked = λ _. loaded.course picks
+          (limited_steps c.in_ok-loaded.course picks
+          (subst (λ (k : Course). AreOf k picks) c.limited-course.ensures c.in_ok-plan.ensures.picks));
+      drawn = λ _ unlisted. drawn_for c.args.schedule.now setup c.in_ok-board.board c.in_ok-loaded.course picks
+          c.in_ok-board.ensures.made loaded.draw loaded.listed
+          (subst (λ (k : Course). is_some (form_of k) ≡ true → AreDrawn setup.program setup.limits (IsOut k) picks)
+          c.limited-course.ensures c.in_ok-plan.ensures.drawn) unlisted;
       unasked = λ none. let some = c.requires in cc;
     }
 
-pub returns-in_err-settings-clause-none : goal.returns-in_err-settings-clause-none
-returns-in_err-settings-clause-none g c =
+pub returns-in_err-loaded-clause-none : goal.returns-in_err-loaded-clause-none
+returns-in_err-loaded-clause-none g c =
     let p = err_from_is_err_and c.from_residual.result c.from_residual.ensures.1 in
-    rw (p.1, p.2)
-    (without_program (λ any. no_setup c.in_err-settings.field-0.0 (misread c.in_err-settings.ensures.misread) refl))
-
-pub returns-in_err-asked-clause-none : goal.returns-in_err-asked-clause-none
-returns-in_err-asked-clause-none g c =
-    let p = err_from_is_err_and c.from_residual-in_err-asked.result c.from_residual-in_err-asked.ensures.1 in
-    rw (p.1, p.2) (unscheduled c.requires (misplanned c.in_err-asked.ensures.none))
-
-pub returns-in_err-text-clause-none : goal.returns-in_err-text-clause-none
-returns-in_err-text-clause-none g c =
-    let p = err_from_is_err_and c.from_residual-in_err-text.result c.from_residual-in_err-text.ensures.1 in
-    rw (p.1, p.2)
-    (without_program (λ any. no_setup c.in_err-text.field-0.0 (not_read c.in_err-text.ensures.given) refl))
-
-pub returns-in_err-file-clause-none : goal.returns-in_err-file-clause-none
-returns-in_err-file-clause-none g c =
-    let given = subst (Gives (g.P.Paths.content c.args.paths.now c.args.machine.now.file.now) most_bytes)
-    (sym c.as_slice.ensures.value) c.in_ok-text.ensures.given in
-    let p = err_from_is_err_and c.from_residual-in_err-file.result c.from_residual-in_err-file.ensures.1 in
-    rw (p.1, p.2)
-    (without_program
-    (λ any. no_setup c.in_err-file.field-0.0 (no_program c.as_slice.result.now given c.in_err-file.ensures.none) refl))
-
-pub returns-in_err-setup-clause-none : goal.returns-in_err-setup-clause-none
-returns-in_err-setup-clause-none g c =
-    let given = subst (Gives (g.P.Paths.content c.args.paths.now c.args.machine.now.file.now) most_bytes)
-    (sym c.as_slice.ensures.value) c.in_ok-text.ensures.given in
-    let p = err_from_is_err_and c.from_residual-in_err-setup.result c.from_residual-in_err-setup.ensures.1 in
-    rw (p.1, p.2)
-    (unscheduled c.requires
-    (of_planned (g.P.Paths.content c.args.paths.now) (g.P.Paths.content c.read_file.new.paths) c.args.machine.now
-    c.args.schedule.now c.in_ok-file.file c.in_ok-settings.settings c.in_ok-asked.asked
-    c.in_err-setup.field-0.0 c.read_file.ensures.kept
-    (record { text = c.as_slice.result.now; given = given; read = c.in_ok-file.ensures.file })
-    c.in_ok-settings.ensures.settings c.in_ok-asked.ensures.path c.in_err-setup.ensures.none))
+    rw (p.1, p.2) (unscheduled c.requires c.in_err-loaded.ensures.none)
 
 pub returns-in_err-check_cores-clause-none : goal.returns-in_err-check_cores-clause-none
 returns-in_err-check_cores-clause-none g c =
-    let given = subst (Gives (g.P.Paths.content c.args.paths.now c.args.machine.now.file.now) most_bytes)
-    (sym c.as_slice.ensures.value) c.in_ok-text.ensures.given in
-    let asked :
-    IsAsked (g.P.Paths.content c.args.paths.now c.args.machine.now.file.now) c.args.machine.now c.in_ok-setup.setup =
-    record {
-      file = c.in_ok-file.file;
-      read = record { text = c.as_slice.result.now; given = given; read = c.in_ok-file.ensures.file };
-      settings = c.in_ok-settings.settings;
-      said = c.in_ok-settings.ensures.settings;
-      made = c.in_ok-setup.ensures.setup;
-    } in
-    let before = g.P.Paths.content c.args.paths.now in
+    let loaded = c.in_ok-loaded.ensures.loaded in
     let p =
     err_from_is_err_and c.from_residual-in_err-check_cores.result c.from_residual-in_err-check_cores.ensures.1 in
-    rw (p.1, p.2) (beyond c.in_ok-setup.setup c.in_ok-setup.course asked
-    (λ picks are. c.in_ok-asked.ensures.steps before picks
-    (planned_before before (g.P.Paths.content c.read_file.new.paths) c.in_ok-asked.asked picks c.read_file.ensures.kept
-    (c.in_ok-setup.ensures.course picks are)))
-    (subst (λ (n : ℕ). NamesNoCore (listed_in c.in_ok-setup.course) n c.in_err-check_cores.field-0.0)
+    rw (p.1, p.2) (beyond c.in_ok-loaded.loaded.setup c.limited-course.result loaded.setup
+    (λ picks are. loaded.course picks
+    (limited_steps c.in_ok-loaded.course picks (subst (λ (k : Course). AreOf k picks) c.limited-course.ensures are)))
+    (subst (λ (n : ℕ). NamesNoCore (listed_in c.limited-course.result) n c.in_err-check_cores.field-0.0)
     c.cores.ensures.number c.in_err-check_cores.ensures.none))
 
 pub returns-in_err-board-clause-none : goal.returns-in_err-board-clause-none
 returns-in_err-board-clause-none g c =
-    let given = subst (Gives (g.P.Paths.content c.args.paths.now c.args.machine.now.file.now) most_bytes)
-    (sym c.as_slice.ensures.value) c.in_ok-text.ensures.given in
-    let asked :
-    IsAsked (g.P.Paths.content c.args.paths.now c.args.machine.now.file.now) c.args.machine.now c.in_ok-setup.setup =
-    record {
-      file = c.in_ok-file.file;
-      read = record { text = c.as_slice.result.now; given = given; read = c.in_ok-file.ensures.file };
-      settings = c.in_ok-settings.settings;
-      said = c.in_ok-settings.ensures.settings;
-      made = c.in_ok-setup.ensures.setup;
-    } in
     let p = err_from_is_err_and c.from_residual-in_err-board.result c.from_residual-in_err-board.ensures.1 in
-    rw (p.1, p.2) (boardless c.in_ok-setup.setup asked c.in_err-board.ensures.none)
+    rw (p.1, p.2)
+    (boardless c.in_ok-loaded.loaded.setup c.in_ok-loaded.ensures.loaded.setup c.in_err-board.ensures.none)
 
 pub returns-in_err-plan-clause-none : goal.returns-in_err-plan-clause-none
 returns-in_err-plan-clause-none g c =
-    let given = subst (Gives (g.P.Paths.content c.args.paths.now c.args.machine.now.file.now) most_bytes)
-    (sym c.as_slice.ensures.value) c.in_ok-text.ensures.given in
-    let asked :
-    IsAsked (g.P.Paths.content c.args.paths.now c.args.machine.now.file.now) c.args.machine.now c.in_ok-setup.setup =
-    record {
-      file = c.in_ok-file.file;
-      read = record { text = c.as_slice.result.now; given = given; read = c.in_ok-file.ensures.file };
-      settings = c.in_ok-settings.settings;
-      said = c.in_ok-settings.ensures.settings;
-      made = c.in_ok-setup.ensures.setup;
-    } in
     let p = err_from_is_err_and c.from_residual-in_err-plan.result c.from_residual-in_err-plan.ensures.1 in
-    rw (p.1, p.2) (undrawn c.in_ok-setup.setup asked c.in_err-plan.ensures.none)
+    rw (p.1, p.2) (undrawn c.in_ok-loaded.loaded.setup c.in_ok-loaded.ensures.loaded.setup c.in_err-plan.ensures.none)

@@ -42,7 +42,7 @@ bytes-preserved g c =
     let on : c.in_ok-goes_on.goes_on ≡ true = search rules in (
       tt,
       tt,
-      then_same c.bytes.invariant.2 c.hear.ensures.same,
+      then_same c.bytes.invariant.2 c.hear.ensures.answering.same,
       serving_more c.bytes.session.reader c.hear.new.self.reader (session_value c.args.session.now)
           (session_value c.bytes.session) (session_value c.hear.new.self) (g.O.Out.device c.hear.new.out)
           c.in-Some-found.byte c.in_ok-goes_on.goes_on c.bytes.invariant.3 reads c.in_ok-found.ensures.kept

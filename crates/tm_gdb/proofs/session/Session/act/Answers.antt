@@ -11,19 +11,19 @@ pub returns-in-Damaged-clause-done : goal.returns-in-Damaged-clause-done
 returns-in-Damaged-clause-done g c =
     is_written c.refuse.result (45 ∷ []) c.args.heard.now Damaged (session_value c.args.self.now)
     (g.O.Out.device c.args.out.now) (g.O.Out.device c.refuse.new.out) c.in-Damaged.is (λ text on done. done)
-    c.refuse.ensures.wrote c.refuse.ensures.on
+    c.refuse.ensures.puts c.refuse.ensures.on
 
 pub returns-in-TooLong-clause-done : goal.returns-in-TooLong-clause-done
 returns-in-TooLong-clause-done g c =
     is_written c.refuse-in-TooLong.result (45 ∷ []) c.args.heard.now TooLong (session_value c.args.self.now)
     (g.O.Out.device c.args.out.now) (g.O.Out.device c.refuse-in-TooLong.new.out) c.in-TooLong.is
-    (λ text on done. done) c.refuse-in-TooLong.ensures.wrote c.refuse-in-TooLong.ensures.on
+    (λ text on done. done) c.refuse-in-TooLong.ensures.puts c.refuse-in-TooLong.ensures.on
 
 pub returns-in-Resend-clause-done : goal.returns-in-Resend-clause-done
 returns-in-Resend-clause-done g c =
     is_written c.resend.result (again_text (session_value c.args.self.now).last) c.args.heard.now Resend
     (session_value c.args.self.now) (g.O.Out.device c.args.out.now) (g.O.Out.device c.resend.new.out) c.in-Resend.is
-    (λ text on done. done) c.resend.ensures.wrote c.resend.ensures.on
+    (λ text on done. done) c.resend.ensures.puts c.resend.ensures.on
 
 pub returns-in-Nothing-clause-done : goal.returns-in-Nothing-clause-done
 returns-in-Nothing-clause-done g c =

@@ -19,5 +19,5 @@ returns-clause-done g c =
         whole = refl;
         goes = ap not c.is_end.ensures;
       },
-      wrote_then c.in_ok-acknowledge.ensures.wrote reply.3,
+      wrote_then c.in_ok-acknowledge.ensures reply.3,
     )
