@@ -1,4 +1,5 @@
-//! The options of `hunt`.
+//! The options of `hunt`, as they were given, and none where one is not. Numbers are words still: whoever uses one
+//! reads it, and tells its range.
 
 use crate::subcommand::MachineOptions;
 

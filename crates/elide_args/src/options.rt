@@ -1,4 +1,5 @@
-//! The options, as data.
+//! The options, as data: of each its name, what follows it and what help says. Readers, help, manual page and
+//! completions are made of this one list.
 
 /// An option of a subcommand, or a word that has its place.
 #[derive(Clone, Copy)]

@@ -1,4 +1,4 @@
-//! The subcommands, as data.
+//! The subcommands, as data, each with its options and the words of its help.
 
 use crate::options::{
     BUDGET, BURST, CHECK, CHECK_OF_ALL, CODE, COLOR, CORE, CORES, COUNTS, COUNTS_JSON, DUMP,

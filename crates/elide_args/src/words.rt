@@ -1,4 +1,5 @@
-//! The subcommand that words make.
+//! The subcommand that words make: clap reads them, and what it refuses is told on standard error with the name that
+//! was meant. Files are not opened here.
 
 ghost use Rattle.std.specs.Prelude.{◌≡◌, IfOk, IfSome, Some, codes};
 ghost use Rattle.clap.specs.Matches.{first_value, found_of};

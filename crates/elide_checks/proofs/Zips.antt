@@ -2,6 +2,7 @@
 use Rattle.std.proofs.Common.{◌≡◌, ◌∙◌, ℕ, zero, suc, ◌+◌, ◌<◌, List, [], ◌∷◌, ◌++◌, Bor, ap, append_assoc, subst, take}
 use Rattle.std.proofs.Common.{arith, length, slice_index_or as get_or}
 use Rattle.std.specs.List.{AllZip}
+use Rattle.elide_checks.specs.Added.{AreAdded}
 
 zip_more : {A B : Type 0} (R : A → B → Type 0) (xs : List A) (ys : List B) (i : ℕ) (d : A) (y : B) → i < length xs
     → AllZip R (take i xs) ys → R (get_or xs i d) y → AllZip R (take (i + 1) xs) (ys ++ y ∷ [])
@@ -18,17 +19,13 @@ zip_more R (z ∷ xs) (w ∷ ys) (suc i) d y h all r =
 abbrev pub no_text : Bor (List ℕ)
 no_text = record { ref_ptr = (0, 0); now = [] }
 
--- what was added to a list so far: one for each of these texts, in their order
-abbrev pub AreAdded : {B : Type 0} → (Bor (List ℕ) → B → Type 0) → List (Bor (List ℕ)) → ℕ → List B → List B → Type 0
-AreAdded {B} Says texts count begun held =
-    (more : List B) × (held ≡ begun ++ more) × AllZip Says (take count texts) more
-
--- and one more
-pub one_added : {B : Type 0} (Says : Bor (List ℕ) → B → Type 0) (texts : List (Bor (List ℕ))) (count : ℕ)
-    (begun held now : List B) (one : B) → count < length texts → AreAdded Says texts count begun held
-    → now ≡ held ++ one ∷ [] → Says (get_or texts count no_text) one → AreAdded Says texts (count + 1) begun now
+-- what was added for the texts so far, and one more
+pub one_added : {B : Type 0} (Says : List ℕ → B → Type 0) (texts : List (Bor (List ℕ))) (count : ℕ)
+    (begun held now : List B) (one : B) → count < length texts → AreAdded Says (take count texts) begun held
+    → now ≡ held ++ one ∷ [] → Says (get_or texts count no_text).now one
+    → AreAdded Says (take (count + 1) texts) begun now
 one_added Says texts count begun held now one within before is says = (
   before.0 ++ one ∷ [],
   is ∙ ap (λ l. l ++ one ∷ []) before.1 ∙ append_assoc begun before.0 (one ∷ []),
-  zip_more Says texts before.0 count no_text one within before.2 says,
+  zip_more (λ text one. Says text.now one) texts before.0 count no_text one within before.2 says,
 )

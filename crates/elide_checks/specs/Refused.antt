@@ -6,13 +6,14 @@ use Rattle.elide_args.specs.declared.hunt_options.HuntOptions.{HuntOptions}
 use Rattle.elide_program.specs.declared.file.ProgramFile.{ProgramFile}
 use Rattle.elide_program.specs.Settings.{number_said}
 use Rattle.elide_setup.specs.Faults.{want}
+use Rattle.elide_setup.specs.Jobs.{AreNoJobs}
 use Rattle.elide_setup.specs.Misuse.{IsMisuse}
 use Rattle.tm_hist.specs.Lines.{stop_word}
 use Rattle.elide_setup.specs.declared.fault.Refusal.{Refusal}
 use Rattle.tm_rule.specs.declared.kinds.Stop.{Stop}
 use Rattle.elide_checks.specs.Constants.{is_constant}
 use Rattle.elide_checks.specs.Misread.{IsNoCondition, IsNoEndCondition}
-use Rattle.elide_checks.specs.Runs.{AreNoJobs, AreNoRuns, IsNoLimit, IsNoMethod, events_asked}
+use Rattle.elide_checks.specs.Runs.{AreNoRuns, IsNoLimit, IsNoMethod, events_asked}
 
 -- a text is none by a rule, and the option of this name is told for it; or there is no memory
 abbrev pub IsMisreadText : Type 0 → List ℕ → Refusal → Type 0

@@ -1,5 +1,5 @@
--- The runs that `--runs` says, the events that `--events` says, how `--method` has the core of each step drawn, and the
--- threads that `--jobs` says (docs/FORMATS.md, "Options of the command line").
+-- The runs that `--runs` says, the events that `--events` says, and how `--method` has the core of each step drawn
+-- (docs/FORMATS.md, "Options of the command line").
 use Rattle.std.specs.Prelude.{◌≡◌, ◌≢◌, ◌<◌, ◌≤◌, ◌⊎◌, ℕ, List, ◌++◌, codes, nat_eq, Option, Some, None}
 use Rattle.std.specs.Prelude.{if◌then◌else◌}
 use Rattle.std.specs.Cmp.Lexicographic.{pointwise}
@@ -37,12 +37,6 @@ method_word Bursts = codes "bursts"
 method_word Priorities = codes "pct"
 method_word Seen = codes "seen"
 
--- 1 to 1024 threads: as many as the option says; how many a machine has processors is the host's to say
-pub record AreJobs (option : Option (List ℕ)) (jobs : ℕ) : Type 0 where
-  pub some : 1 ≤ jobs
-  pub few : jobs ≤ 1024
-  pub said : (text : List ℕ) → option ≡ Some text → word32 text ≡ Some jobs
-
 -- ---- values that are none of these
 
 -- no runs: the option is not given; it is no number, and has no `..`; or it has one, and a number is wanting before it
@@ -63,8 +57,3 @@ IsNoMethod option = (method : Method) → option ≢ Some (method_word method)
 -- no number from 1 on
 abbrev pub IsNoLimit : Option (List ℕ) → Type 0
 IsNoLimit option = (most : ℕ) → number_or 1000000 option ≡ Some most → most ≡ 0
-
--- no number from 1 to 1024
-abbrev pub AreNoJobs : Option (List ℕ) → Type 0
-AreNoJobs None = ⊥
-AreNoJobs (Some text) = (jobs : ℕ) → word32 text ≡ Some jobs → (jobs ≡ 0) ⊎ (1024 < jobs)

@@ -16,7 +16,7 @@ ghost use Rattle.tm_check.specs.declared.clause.RunClause.{RunClause as RunClaus
 use crate::bytes::bytes_of;
 use crate::cut::cut;
 use crate::items::{Scope, Side, item_of};
-use crate::row::add;
+use elide_program::add;
 use elide_setup::Refusal;
 use std::alloc::{AllocError, Global};
 use tm_check::{Quantity, RunClause};

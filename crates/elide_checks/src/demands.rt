@@ -5,11 +5,11 @@
 //! of `--check`. It needs the program's symbols, but no machine: whether one has what is looked at is asked by
 //! [`Demands::checks`] once it is known.
 
-ghost use Rattle.std.specs.Prelude.{◌≡◌, ◌≢◌, ◌⊎◌, ◌↔◌, ◌++◌, All, IsTrue, List, MatchOption, MatchResult, OnOk, codes};
-ghost use Rattle.std.specs.List.{AllZip};
+ghost use Rattle.std.specs.Prelude.{◌≡◌, ◌≢◌, ◌⊎◌, ◌++◌, All, MatchOption, MatchResult, OnOk, codes};
 ghost use Rattle.elide_args.specs.declared.hunt_options.HuntOptions.{HuntOptions};
 ghost use Rattle.elide_setup.specs.Misuse.{IsMisuse};
 ghost use Rattle.tm_hist.specs.Lines.{stop_word};
+ghost use Rattle.elide_checks.specs.Added.{AreAdded};
 ghost use Rattle.elide_checks.specs.Checks.{AreChecks, AreChecksBy, IsDemanded, IsForbidden, IsStopCheck, halt_checks};
 ghost use Rattle.elide_checks.specs.Constants.{is_among};
 ghost use Rattle.elide_checks.specs.Misread.{IsNoCondition};
@@ -17,15 +17,13 @@ ghost use Rattle.elide_checks.specs.Reach.{HasCheck};
 ghost use Rattle.elide_checks.specs.Refused.{AreNoDemands, HasMisreadText, IsNoStop};
 ghost use Rattle.elide_setup.specs.Faults.{want};
 ghost use Rattle.tm_rule.specs.declared.kinds.Stop.{Stop as StopOf};
-ghost use Rattle.tm_check.specs.declared.check.Check.{Check};
 
 use crate::conditions::condition_of;
 use crate::constants::Constants;
 use crate::items::Scope;
-use crate::reach::is_there;
-use crate::row::add;
+use crate::reach::has_check;
 use elide_args::HuntOptions;
-use elide_program::ProgramFile;
+use elide_program::{ProgramFile, add};
 use elide_setup::{Fault, Refusal};
 use std::alloc::{AllocError, Global};
 use tm_check::Check;
@@ -64,23 +62,12 @@ impl Demands {
             (λ checks. (checks.now ≡ self.now.checks.items) × All (HasCheck size cores) checks.now)
             (λ why. ¬ All (HasCheck size cores) self.now.checks.items × (why ≡ Refusal.Fault Fault.OutOfRange)) }
     {
-        if !are_there(self.checks.as_slice(), size, cores) {
+        let checks = self.checks.as_slice();
+        if !checks.iter().all(|check| has_check(check, size, cores)) {
             return Err(Refusal::Fault(Fault::OutOfRange));
         }
-        Ok(self.checks.as_slice())
+        Ok(checks)
     }
-}
-
-// Whether a machine with so many cores and a memory of this size has all that the checks look at.
-fn are_there(checks: &[Check], size: u32, cores: u8) -> bool
-    ensures { IsTrue result ↔ All (HasCheck size cores) checks.now }
-{
-    for check in checks {
-        if !is_there(check, size, cores) {
-            return false;
-        }
-    }
-    true
 }
 
 // What the options say.
@@ -113,9 +100,8 @@ fn add_demanded(
     scope: &Scope<'_, '_, '_>,
 ) -> Result<(), Refusal>
     ensures { MatchResult result
-        (λ _. (more : List Check) × (checks.new.items ≡ checks.old.items ++ more)
-        × AllZip (λ text check. IsDemanded scope.now.file.now (is_among scope.now.constants.now.names.items) text.now
-        check) texts.now more)
+        (λ _. AreAdded (IsDemanded scope.now.file.now (is_among scope.now.constants.now.names.items)) texts.now
+        checks.old.items checks.new.items)
         (λ why. HasMisreadText (IsNoCondition scope.now.file.now) texts.now (codes "--check") why ⊎ (why ≡ want)) }
 {
     for text in texts {
@@ -133,9 +119,8 @@ fn add_forbidden(
     scope: &Scope<'_, '_, '_>,
 ) -> Result<(), Refusal>
     ensures { MatchResult result
-        (λ _. (more : List Check) × (checks.new.items ≡ checks.old.items ++ more)
-        × AllZip (λ text check. IsForbidden scope.now.file.now (is_among scope.now.constants.now.names.items) text.now
-        check) texts.now more)
+        (λ _. AreAdded (IsForbidden scope.now.file.now (is_among scope.now.constants.now.names.items)) texts.now
+        checks.old.items checks.new.items)
         (λ why. HasMisreadText (IsNoCondition scope.now.file.now) texts.now (codes "--forbid") why ⊎ (why ≡ want)) }
 {
     for text in texts {
@@ -148,8 +133,7 @@ fn add_forbidden(
 // Adds what each `--stop` says.
 fn add_stops(checks: &mut Vec<Check>, words: &[&str]) -> Result<(), Refusal>
     ensures { MatchResult result
-        (λ _. (more : List Check) × (checks.new.items ≡ checks.old.items ++ more)
-        × AllZip (λ word check. IsStopCheck word.now check) words.now more)
+        (λ _. AreAdded IsStopCheck words.now checks.old.items checks.new.items)
         (λ why. IsNoStop words.now why ⊎ (why ≡ want)) }
 {
     for word in words {

@@ -4,8 +4,9 @@
 //! uses. A count is read as in a condition of `hunt`, and refused behind that: an end is of many runs, and has none.
 //! Whether a machine has what is looked at is asked by [`EndChecks::checks`].
 
-ghost use Rattle.std.specs.Prelude.{◌≡◌, ◌⊎◌, ◌↔◌, ◌++◌, All, IfOk, IsTrue, List, MatchOption, MatchResult, codes, map};
-ghost use Rattle.std.specs.List.{AllZip, Contains};
+ghost use Rattle.std.specs.Prelude.{◌≡◌, ◌⊎◌, All, IfOk, MatchOption, MatchResult, codes, map};
+ghost use Rattle.std.specs.List.{Contains};
+ghost use Rattle.elide_checks.specs.Added.{AreAdded};
 ghost use Rattle.elide_checks.specs.Constants.{is_among};
 ghost use Rattle.elide_checks.specs.Ends.{AreEndChecks, AreEndChecksBy, IsEndDemanded, IsEndForbidden, IsOfMachine};
 ghost use Rattle.elide_checks.specs.Misread.{IsNoEndCondition, IsOfRun};
@@ -14,14 +15,12 @@ ghost use Rattle.elide_checks.specs.Refused.{AreNoChecks, AreMisreadTexts, HasMi
 ghost use Rattle.elide_setup.specs.Faults.{want};
 ghost use Rattle.tm_check.specs.declared.clause.RunClause.{RunClause as RunClauseOf};
 ghost use Rattle.tm_check.specs.declared.clause.RunClause.TheVariants.{OfMachine};
-ghost use Rattle.tm_condition.specs.declared.check.Check.{Check as CheckOf};
 
 use crate::conditions::condition_of;
 use crate::constants::Constants;
 use crate::items::Scope;
-use crate::reach::has_machine_clauses;
-use crate::row::add;
-use elide_program::ProgramFile;
+use crate::reach::has_end_check;
+use elide_program::{ProgramFile, add};
 use elide_setup::{Fault, Refusal};
 use std::alloc::{AllocError, Global};
 use tm_check::RunClause;
@@ -62,32 +61,11 @@ impl EndChecks {
             (λ checks. (checks.now ≡ self.now.checks.items) × All (HasEndCheck size cores) checks.now)
             (λ why. ¬ All (HasEndCheck size cores) self.now.checks.items × (why ≡ Refusal.Fault Fault.OutOfRange)) }
     {
-        if !are_there(self.checks.as_slice(), size, cores) {
+        let checks = self.checks.as_slice();
+        if !checks.iter().all(|check| has_end_check(check, size, cores)) {
             return Err(Refusal::Fault(Fault::OutOfRange));
         }
-        Ok(self.checks.as_slice())
-    }
-}
-
-// Whether a machine with so many cores and a memory of this size has all that the checks look at.
-fn are_there(checks: &[Check], size: u32, cores: u8) -> bool
-    ensures { IsTrue result ↔ All (HasEndCheck size cores) checks.now }
-{
-    for check in checks {
-        if !is_there(check, size, cores) {
-            return false;
-        }
-    }
-    true
-}
-
-// Whether a machine with so many cores and a memory of this size has all that a check looks at.
-fn is_there(check: &Check, size: u32, cores: u8) -> bool
-    ensures { IsTrue result ↔ HasEndCheck size cores check.now }
-{
-    match check {
-        Check::Demanded(clauses) => has_machine_clauses(clauses.as_slice(), size, cores),
-        Check::Forbidden(clauses) => has_machine_clauses(clauses.as_slice(), size, cores),
+        Ok(checks)
     }
 }
 
@@ -119,9 +97,8 @@ fn add_demanded(
     scope: &Scope<'_, '_, '_>,
 ) -> Result<(), Refusal>
     ensures { MatchResult result
-        (λ _. (more : List CheckOf) × (checks.new.items ≡ checks.old.items ++ more)
-        × AllZip (λ text check. IsEndDemanded scope.now.file.now (is_among scope.now.constants.now.names.items) text.now
-        check) texts.now more)
+        (λ _. AreAdded (IsEndDemanded scope.now.file.now (is_among scope.now.constants.now.names.items)) texts.now
+        checks.old.items checks.new.items)
         (λ why. HasMisreadText (IsNoEndCondition scope.now.file.now (is_among scope.now.constants.now.names.items))
         texts.now (codes "--check") why ⊎ (why ≡ want)) }
 {
@@ -140,10 +117,8 @@ fn add_forbidden(
     scope: &Scope<'_, '_, '_>,
 ) -> Result<(), Refusal>
     ensures { MatchResult result
-        (λ _. (more : List CheckOf) × (checks.new.items ≡ checks.old.items ++ more)
-        × AllZip
-        (λ text check. IsEndForbidden scope.now.file.now (is_among scope.now.constants.now.names.items) text.now
-        check) texts.now more)
+        (λ _. AreAdded (IsEndForbidden scope.now.file.now (is_among scope.now.constants.now.names.items)) texts.now
+        checks.old.items checks.new.items)
         (λ why. HasMisreadText (IsNoEndCondition scope.now.file.now (is_among scope.now.constants.now.names.items))
         texts.now (codes "--forbid") why ⊎ (why ≡ want)) }
 {

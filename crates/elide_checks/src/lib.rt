@@ -23,7 +23,6 @@ mod items;
 mod misread;
 mod orders;
 mod reach;
-mod row;
 
 pub use counts::core_of;
 pub use demands::{Demands, stop_of};

@@ -8,21 +8,18 @@
 ghost use Rattle.std.specs.Prelude.{◌≡◌, ◌≢◌, ◌≤◌, IfErr, IfOk, MatchOption, None, Some, codes};
 ghost use Rattle.std.specs.Option.{option_copied};
 ghost use Rattle.elide_program.specs.Settings.{number_or, number_said};
+ghost use Rattle.elide_setup.specs.Jobs.{AreJobs};
 ghost use Rattle.elide_setup.specs.Misuse.{IsMisuse};
 ghost use Rattle.elide_checks.specs.Refused.{AreNoOrders};
-ghost use Rattle.elide_checks.specs.Runs.{AreJobs, AreNoJobs, AreNoRuns, AreRuns, IsNoLimit, IsNoMethod, events_asked};
-ghost use Rattle.elide_checks.specs.Runs.{method_word};
+ghost use Rattle.elide_checks.specs.Runs.{AreNoRuns, AreRuns, IsNoLimit, IsNoMethod, events_asked, method_word};
 ghost use Rattle.tm_pick.specs.declared.method.Method.{Method as MethodOf};
 
 use crate::cut::cut;
 use elide_args::HuntOptions;
 use elide_program::number_of;
-use elide_setup::Refusal;
-use std::thread::{Threads, available_parallelism};
+use elide_setup::{Refusal, jobs_of};
+use std::thread::Threads;
 use tm_pick::{Events, Method};
-
-/// The most threads.
-const MOST_JOBS: u32 = 1024;
 
 /// The most steps of a run, where no limit is given.
 const MOST_STEPS: u32 = 1_000_000;
@@ -160,39 +157,5 @@ fn most_of(text: Option<&str>) -> Result<u32, Refusal>
     match number_of(Some(text), "--limit")? {
         0 => Err(Refusal::Usage("--limit")),
         most => Ok(most),
-    }
-}
-
-// The threads that are asked for, or one a processor.
-fn jobs_of<R: Threads>(rt: &R, text: Option<&str>) -> Result<usize, Refusal>
-    ensures ok { IfOk result (AreJobs (option_copied text.entry)) }
-    ensures err { IfErr result (λ why. AreNoJobs (option_copied text.entry) × IsMisuse (codes "--jobs") why) }
-{
-    match text {
-        Some(text) => jobs_said(text),
-        None => Ok(processors(rt)),
-    }
-}
-
-// As many as the option says.
-fn jobs_said(text: &str) -> Result<usize, Refusal>
-    ensures ok { IfOk result (AreJobs (Some text.now)) }
-    ensures err { IfErr result (λ why. AreNoJobs (Some text.now) × IsMisuse (codes "--jobs") why) }
-{
-    match number_of(Some(text), "--jobs")? {
-        0 => Err(Refusal::Usage("--jobs")),
-        jobs if jobs > MOST_JOBS => Err(Refusal::Usage("--jobs")),
-        jobs => Ok(jobs as usize),
-    }
-}
-
-// One a processor, as far as the host tells how many it has.
-fn processors<R: Threads>(rt: &R) -> usize
-    ensures some { 1 ≤ result }
-    ensures few { result ≤ 1024 }
-{
-    match available_parallelism(rt) {
-        Ok(processors) => processors.get().min(MOST_JOBS as usize),
-        Err(_) => 1,
     }
 }

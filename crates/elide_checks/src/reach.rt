@@ -1,16 +1,17 @@
 //! Whether what a check looks at is there: its cores below those of the machine, its bytes within memory.
 //!
-//! [`is_there`] is asked of each check before a run is made, by `demands`; `ends` asks [`has_machine_clauses`]. Both
-//! tell it as 73 `OutOfRange`, which does not say of which check. All cores, and numbers, are always there.
+//! [`has_check`] is asked of each check before a run is made, by `demands`, and [`has_end_check`] by `ends`. Both tell
+//! it as 73 `OutOfRange`, which does not say of which check. All cores, and numbers, are always there.
 
 ghost use Rattle.std.specs.Prelude.{◌↔◌, ◌+◌, ◌≤◌, All, IsTrue};
-ghost use Rattle.elide_checks.specs.Reach.{HasCheck, HasClause, HasCores, HasCount, HasItem, HasQuantity, HasRunClause};
+ghost use Rattle.elide_checks.specs.Reach.{HasCheck, HasClause, HasCores, HasCount, HasEndCheck, HasItem, HasQuantity};
+ghost use Rattle.elide_checks.specs.Reach.{HasRunClause};
 
 use tm_check::{Check, Cores, Count, Quantity, RunClause};
-use tm_condition::{Clause, Item};
+use tm_condition::{Check as EndCheck, Clause, Item};
 
-/// Whether a machine with so many cores and a memory of this size has all that a check looks at.
-pub fn is_there(check: &Check, size: u32, cores: u8) -> bool
+/// Whether a machine with so many cores and a memory of this size has all that a check of a run looks at.
+pub fn has_check(check: &Check, size: u32, cores: u8) -> bool
     ensures { IsTrue result ↔ HasCheck size cores check.now }
 {
     match check {
@@ -21,16 +22,21 @@ pub fn is_there(check: &Check, size: u32, cores: u8) -> bool
     }
 }
 
-// Whether a machine has all that each of some conditions looks at, as [`is_there`] has it.
+/// Whether it has all that a check of the ends of schedules looks at.
+pub fn has_end_check(check: &EndCheck, size: u32, cores: u8) -> bool
+    ensures { IsTrue result ↔ HasEndCheck size cores check.now }
+{
+    match check {
+        EndCheck::Demanded(clauses) => has_machine_clauses(clauses.as_slice(), size, cores),
+        EndCheck::Forbidden(clauses) => has_machine_clauses(clauses.as_slice(), size, cores),
+    }
+}
+
+// Whether a machine has all that each of some conditions looks at.
 fn has_clauses(clauses: &[RunClause], size: u32, cores: u8) -> bool
     ensures { IsTrue result ↔ All (HasRunClause size cores) clauses.now }
 {
-    for clause in clauses {
-        if !has_clause(clause, size, cores) {
-            return false;
-        }
-    }
-    true
+    clauses.iter().all(|clause| has_clause(clause, size, cores))
 }
 
 fn has_clause(clause: &RunClause, size: u32, cores: u8) -> bool
@@ -44,17 +50,13 @@ fn has_clause(clause: &RunClause, size: u32, cores: u8) -> bool
     }
 }
 
-/// Whether a machine with so many cores and a memory of this size has all that each of some conditions on a machine
-/// alone looks at.
-pub fn has_machine_clauses(clauses: &[Clause], size: u32, cores: u8) -> bool
+// Whether a machine has all that each of some conditions on a machine alone looks at.
+fn has_machine_clauses(clauses: &[Clause], size: u32, cores: u8) -> bool
     ensures { IsTrue result ↔ All (HasClause size cores) clauses.now }
 {
-    for clause in clauses {
-        if !has_machine_clause(clause, size, cores) {
-            return false;
-        }
-    }
-    true
+    clauses
+        .iter()
+        .all(|clause| has_machine_clause(clause, size, cores))
 }
 
 fn has_machine_clause(clause: &Clause, size: u32, cores: u8) -> bool

@@ -1,8 +1,8 @@
 //! The symbols of a program's file, in a row of their own, which outlives FILE's text.
 //!
 //! [`symbols_of`] has each with its value, by which a name is an address: labels and constants of a source, and what a
-//! table of symbols has. Want of memory is all that refuses it. Nothing is sorted: of several symbols of one name the
-//! first counts.
+//! table of symbols has; no other call goes over them. Want of memory is all that refuses it. Nothing is sorted: of
+//! several symbols of one name the first counts.
 
 ghost use Rattle.std.specs.Prelude.{◌≡◌, ◌+◌, ◌<◌, ℕ, List, IfOk, OnOk, length, take};
 ghost use Rattle.symbols.specs.Symbols.{symbol_in};

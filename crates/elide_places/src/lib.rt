@@ -6,12 +6,14 @@
 //! source (`ia_asm`), on the readers of executables and of their line numbers (`ia_elf`, `ia_lines`), and on `symbols`.
 #![tactic(auto)]
 
+mod file_names;
 mod file_symbols;
 mod places;
 mod source_text;
 mod symbol_text;
 
+pub use file_names::{FileNames, Wants};
 pub use file_symbols::symbols_of;
-pub use places::Places;
+pub use places::{Places, placed_symbols};
 pub use source_text::push_source_place;
 pub use symbol_text::{Naming, SymbolText, push_code_place, push_symbols};

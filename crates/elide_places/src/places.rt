@@ -1,11 +1,14 @@
 //! The places of a program: which line or symbol stands at an address.
 //!
 //! [`Places::of_file`] takes them from the file that was read. Those of a source the assembly kept; of an executable
-//! they are its symbols and, out of the sections of its text, its line numbers. Want of memory is the only refusal.
+//! they are its symbols and, out of the sections of its text, its line numbers. FILE's symbols are gone over by
+//! `file_symbols`: here is said which of them are labels, and which can stand in memory ([`placed_symbols`]). Want of
+//! memory is the only refusal.
 
+use crate::file_symbols::symbols_of;
 use elide_program::ProgramFile;
-use ia_asm::{ProgramImage, SymbolKind};
-use ia_elf::{Elf, section_named};
+use ia_asm::{CodeLine, ProgramImage, SymbolKind};
+use ia_elf::section_named;
 use ia_lines::{Lines, Place, Sections, read_lines};
 use indexmap::IndexMap;
 use std::alloc::{AllocError, Global};
@@ -45,51 +48,29 @@ impl Places {
         file: &ProgramFile<'_>,
         text: &[u8],
     ) -> Result<Places, AllocError> {
+        let mut places = Places::none(alloc);
         match file {
-            ProgramFile::Image(_) => Ok(Places::none(alloc)),
-            ProgramFile::Elf(elf) => Places::of_elf(alloc, elf, text),
-            ProgramFile::Source(program) => Places::of_source(alloc, program),
-        }
-    }
-
-    // The places of an executable of this text: its symbols, in the order of the table, but for those above all memory,
-    // and its lines.
-    fn of_elf(alloc: Global, elf: &Elf<'_>, text: &[u8]) -> Result<Places, AllocError> {
-        let mut places = Places::none(alloc);
-        places.end = elf.end();
-        places.code_end = elf.base().saturating_add(elf.code_len());
-        for index in 0..elf.symbol_count() {
-            if let Some(symbol) = elf.symbol_at(index) {
-                if elf.base() <= symbol.value && symbol.value < MOST_MEMORY {
-                    places
-                        .labels
-                        .push(Symbol::of(alloc, &[], symbol.name, symbol.value)?)?;
-                }
+            ProgramFile::Image(_) => {}
+            ProgramFile::Elf(elf) => {
+                places.labels = placed_symbols(alloc, file)?;
+                places.end = elf.end();
+                places.code_end = elf.base().saturating_add(elf.code_len());
+                places.sources = sources_of(alloc, text)?;
+            }
+            ProgramFile::Source(program) => {
+                places.labels = labels_of(alloc, file, program)?;
+                let size = u32::try_from(program.image.len()).unwrap_or(u32::MAX);
+                places.end = program.base.saturating_add(size);
+                places.add_lines(program.lines.as_slice())?;
             }
         }
-        places.sources = sources_of(alloc, text)?;
         Ok(places)
     }
 
-    // The places of a source that is assembled.
-    fn of_source(alloc: Global, program: &ProgramImage<'_>) -> Result<Places, AllocError> {
-        let mut places = Places::none(alloc);
-        let size = u32::try_from(program.image.len()).unwrap_or(u32::MAX);
-        places.end = program.base.saturating_add(size);
-        for line in program.lines.as_slice() {
-            places.lines.insert(line.address, line.line)?;
-        }
-        places.add_labels(alloc, program)?;
-        Ok(places)
-    }
-
-    // Adds the labels of a source. One that stands at 2^32, behind the last address, has the value 0, and is left out.
-    fn add_labels(&mut self, alloc: Global, program: &ProgramImage<'_>) -> Result<(), AllocError> {
-        for ((name, value), kind) in program.symbols.iter().zip(program.kinds.iter()) {
-            if *kind == SymbolKind::Label && *value >= program.base {
-                self.labels
-                    .push(Symbol::of(alloc, name.scope, name.own, *value)?)?;
-            }
+    // Adds the lines of a source, by their addresses.
+    fn add_lines(&mut self, lines: &[CodeLine]) -> Result<(), AllocError> {
+        for line in lines {
+            self.lines.insert(line.address, line.line)?;
         }
         Ok(())
     }
@@ -129,6 +110,43 @@ impl Places {
     pub fn end(&self) -> u32 {
         self.end
     }
+}
+
+/// The symbols of a file that can stand in its program's memory, in their order: of a source those in its image and at
+/// its end, of an executable those from its first byte on. An image text has none.
+pub fn placed_symbols(alloc: Global, file: &ProgramFile<'_>) -> Result<Vec<Symbol>, AllocError> {
+    let mut symbols = symbols_of(alloc, file)?;
+    let first = file.base();
+    let end = end_of(file);
+    symbols.retain(|symbol| first <= symbol.value() && symbol.value() < end);
+    Ok(symbols)
+}
+
+// The address behind the last one of them. A label of a source can stand at its image's end, and a symbol of an
+// executable anywhere in memory.
+fn end_of(file: &ProgramFile<'_>) -> u32 {
+    match file {
+        ProgramFile::Elf(_) => MOST_MEMORY,
+        _ => {
+            let size = file.bytes().len().min(MOST_MEMORY as usize) as u32;
+            file.base().saturating_add(size).saturating_add(1)
+        }
+    }
+}
+
+// The labels of a source: a constant names no place. One that stands at 2^32, behind the last address, has the value 0,
+// and is left out.
+fn labels_of(
+    alloc: Global,
+    file: &ProgramFile<'_>,
+    program: &ProgramImage<'_>,
+) -> Result<Vec<Symbol>, AllocError> {
+    let mut symbols = symbols_of(alloc, file)?;
+    let mut kinds = program.kinds.iter();
+    symbols.retain(|symbol| {
+        matches!(kinds.next(), Some(SymbolKind::Label)) && program.base <= symbol.value()
+    });
+    Ok(symbols)
 }
 
 // The lines of an executable of this text.

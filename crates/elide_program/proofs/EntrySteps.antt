@@ -46,3 +46,6 @@ pub of_each : (cores : ℕ) (addresses : List ℕ) → length addresses ≡ core
 of_each cores [] h = refl
 of_each cores (alone ∷ []) h = let one : cores ≡ 1 = sym h in ap (λ n. replicate n alone) one
 of_each cores (first ∷ second ∷ others) h = refl
+
+-- entries, one for all or one a core
+pub ruleset entry_steps = (for_all, of_alone, of_each)

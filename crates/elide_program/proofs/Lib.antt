@@ -1,4 +1,5 @@
 pub mod EntrySteps
+pub mod Names
 pub mod PartSteps
 mod Refusing
 pub mod SumSteps

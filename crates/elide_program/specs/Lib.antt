@@ -1,5 +1,6 @@
 pub mod Faults
 pub mod Files
+pub mod Names
 pub mod ProgramFile
 pub mod Settings
 pub mod Parts

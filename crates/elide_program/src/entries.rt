@@ -13,7 +13,7 @@ ghost use Rattle.elide_program.specs.Refusals.{HasNoStart, NamesOption};
 use crate::fault::ProgramRefusal;
 use crate::file::ProgramFile;
 use crate::number::{is_name, word32};
-use crate::parts::add;
+use crate::row::add;
 use std::alloc::Global;
 
 /// A list of entries as `--entry` writes it, in which each word is an address or a name: one entry, or one for each

@@ -243,7 +243,7 @@ fn starts_of(
 }
 
 // One address for all cores, or one a core.
-#[tactic(auto, using(crate::proofs::EntrySteps::for_all, crate::proofs::EntrySteps::of_alone, crate::proofs::EntrySteps::of_each))]
+#[tactic(auto, using(crate::proofs::EntrySteps::entry_steps))]
 fn for_cores(alloc: Global, addresses: Vec<u32>, cores: u32) -> Result<Vec<u32>, ProgramRefusal>
     ensures cores { IfOk result (λ starts. length starts.items ≤ 64 → length starts.items ≡ cores) }
     ensures starts { IfOk result (λ starts. length starts.items ≤ 64 → starts.items ≡ for_cores cores addresses.items) }

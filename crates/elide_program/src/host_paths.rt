@@ -6,7 +6,7 @@
 //! either.
 
 ghost use Rattle.std.specs.Io.KnownBytes.{Appends};
-ghost use Rattle.std.specs.Prelude.{◌≤◌, ℕ, IfOk, List, None, OnErr, OnOk, length};
+ghost use Rattle.std.specs.Prelude.{ℕ, IfOk, List, None, OnErr, OnOk};
 ghost use Rattle.elide_program.specs.Files.{IsNotWritten, IsWritten};
 
 use crate::again::Again;

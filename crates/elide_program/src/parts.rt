@@ -4,22 +4,22 @@
 //! makes addresses of symbols: those of `--dump` first, then those of `--show`. Whether memory has the parts is asked
 //! where they are printed.
 
-ghost use Rattle.std.specs.Prelude.{◌≡◌, ◌++◌, ◌∷◌, [], Contains, IfErr, IfOk, IfSome, List, MatchOption, None, OnOk};
-ghost use Rattle.std.specs.Prelude.{Some, codes, false, ℕ};
-ghost use Rattle.std.specs.Borrow.{Bor};
+ghost use Rattle.std.specs.Prelude.{◌≡◌, ◌++◌, ◌∷◌, [], IfErr, IfOk, MatchOption, None};
+ghost use Rattle.std.specs.Prelude.{Some, false};
 ghost use Rattle.std.specs.List.{AllZip};
 ghost use Rattle.elide_program.specs.Forms.{HasNoColon, IsNoDump};
 ghost use Rattle.elide_program.specs.Parts.{AreParts, IsDump};
-ghost use Rattle.elide_program.specs.Refusals.{HasNoPart, IsNoPart, IsWant};
+ghost use Rattle.elide_program.specs.Refusals.{HasNoPart, IsNoPart};
 ghost use Rattle.elide_program.specs.Settings.{word32};
 ghost use Rattle.elide_program.specs.Sums.{IsSum};
 
 use crate::fault::ProgramRefusal;
 use crate::file::ProgramFile;
 use crate::number::word32;
+use crate::row::add;
 use crate::settings::Settings;
 use crate::sums::{is_sum, sum_of};
-use std::alloc::{AllocError, Global};
+use std::alloc::Global;
 
 /// A part of memory that is printed.
 #[derive(Clone, Copy, PartialEq, Eq)]
@@ -90,17 +90,6 @@ fn values_of(
         add(&mut values, address)?;
     }
     Ok(values)
-}
-
-/// Adds one at the end.
-pub fn add<T: Copy>(row: &mut Vec<T>, value: T) -> Result<(), ProgramRefusal>
-    ensures added { OnOk result (row.new.items ≡ row.old.items ++ value ∷ []) }
-    ensures want { IfErr result IsWant }
-{
-    match row.push(value) {
-        Ok(()) => Ok(()),
-        Err(_) => Err(ProgramRefusal::from(AllocError)),
-    }
 }
 
 // The part `AT:BYTES`.

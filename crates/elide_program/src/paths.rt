@@ -8,6 +8,7 @@ ghost use Rattle.std.specs.Io.KnownBytes.{Appends};
 ghost use Rattle.std.specs.Prelude.{◌≡◌, ◌≤◌, ℕ, ⊤, Bool, IfOk, IfSome, List, MatchResult, OnErr, OnOk, Option};
 ghost use Rattle.std.specs.Prelude.{length};
 ghost use Rattle.elide_program.specs.Files.{Gives, IsNotWritten, IsWritten, Refuses};
+ghost use Rattle.elide_program.specs.Names.{IsNameOf};
 
 use text_out::{Failed, Out, WriteFault};
 use thiserror::Error;
@@ -98,4 +99,14 @@ pub trait Paths {
         ensures told { IfSome (are_one self.old path.now other.now) (λ one. result ≡ one) }
         ensures kept { (name : List ℕ) → content self.new name ≡ content self.old name }
         ensures steady { (one two : List ℕ) → are_one self.new one two ≡ are_one self.old one two };
+}
+
+/// The last part of a path.
+pub fn name_of(path: &str) -> &str
+    ensures { IsNameOf path.now result.now }
+{
+    match path.rsplit_once('/') {
+        Some((_folder, name)) => name,
+        None => path,
+    }
 }

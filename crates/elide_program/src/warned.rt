@@ -4,7 +4,7 @@
 //! by who reads it ([`read_file`](crate::read_file)). Image text and executables have no warnings. They are found by
 //! `ia_source`, and no command waits for them or knows of them.
 
-ghost use Rattle.std.specs.Prelude.{◌≡◌, ◌≤◌, ℕ, [], IfOk, List, MatchResult, Option, length};
+ghost use Rattle.std.specs.Prelude.{[]};
 ghost use Rattle.elide_program.specs.ProgramFile.{IsSource};
 ghost use Rattle.ia_source.specs.Warnings.{warnings};
 ghost use Rattle.text_out.specs.Writing.{Writes};

@@ -17,6 +17,7 @@ use Rattle.elide_setup.specs.Runs.{AreBoardSteps}
 use Rattle.elide_setup.specs.Schedules.{lone_pick, picks_made}
 use Rattle.tm_core.specs.declared.limits.Limits.{Limits}
 use Rattle.tm_hist.specs.Board.{AreSteps, IsHistory, SameBoard, ShownBoard as Board, board_setting, pairs_behind}
+use Rattle.tm_model.proofs.NonePending.{none_at_end, none_at_first}
 use Rattle.tm_model.specs.Setting.{Setting, program_setting}
 use Rattle.tm_model.specs.State.{State, opening_state}
 
@@ -44,8 +45,8 @@ own_cores core history own = All-weaker (λ (pair : ℕ × Outcome). (pair.0 ≡
 
 same_rules : (before after : Board) → SameBoard before after → board_setting after ≡ board_setting before
 same_rules before after same =
-    ap (λ (p : Program). program_setting p after.limits.read_lines after.limits.write_lines) same.program
-    ∙ ap (λ (l : Limits). program_setting before.program l.read_lines l.write_lines) same.limits
+    ap (λ (p : Program). program_setting p after.limits.read_lines after.limits.write_lines 0) same.program
+    ∙ ap (λ (l : Limits). program_setting before.program l.read_lines l.write_lines 0) same.limits
 
 -- what a board's own steps come to
 pub board_run : (before after : Board) (core count : ℕ) → IsHistory before → IsHistory after
@@ -69,7 +70,8 @@ board_run before after core count was law made =
         same = made.same;
         history = made.history ∙ ap (λ l. before.history ++ l) (sym (lone_history more));
         under = λ end at.
-            lone_owed k end (doomed_at_end k (opening_state before.program) none before.history) more
+            lone_owed k end (doomed_at_end k (opening_state before.program) none before.history) more refl
+            (none_at_end k (opening_state before.program) before.history end refl (none_at_first before.program) at)
             (owed_behind k (opening_state before.program) none before.history more end owed at) made.alone;
         was = was;
       },

@@ -3,6 +3,7 @@ use Rattle.std.proofs.Common.{◌≡◌, ℕ, List, [], ◌∷◌, ◌++◌, Opt
 use Rattle.std.specs.Prelude.{◌⊎◌, MatchOption}
 use Rattle.std.proofs.lemmas.List.Elements.{All-append, All-cons, All-head, All-nil, All-tail}
 use Rattle.tm_model.proofs.Events.{no_event_told}
+use Rattle.tm_model.proofs.NonePending.{NonePending, none_behind, owed_is, within}
 use Rattle.tm_model.specs.Conflicts.{Doomed, doomed_after}
 use Rattle.tm_model.specs.Owed.{owed_under}
 use Rattle.tm_model.specs.Runs.{IsOwedUnder, event_told, pick_of}
@@ -47,11 +48,12 @@ under_more events kinds steps pick outcome drawn of never under =
 
 -- ---- the events that their outcomes tell
 
--- where an outcome tells one, it is the one that it is owed under
+-- where an outcome tells one, it is the one that it is owed under, as no store is pending
 told_by : (by : Option Event) (setting : Setting) (memory : List ℕ) (core : Core) (doom : Option ℕ) →
-    (event_told (owed_under by setting memory core doom) ≡ None)
-    ⊎ (event_told (owed_under by setting memory core doom) ≡ by)
+    (event_told (owed_under by setting memory [] core doom) ≡ None)
+    ⊎ (event_told (owed_under by setting memory [] core doom) ≡ by)
 told_by None setting memory core doom = inl (no_event_told setting memory core doom)
+told_by (Some event.Drain) setting memory core doom = inl (no_event_told setting memory core doom)
 told_by (Some (event.Abort by)) setting memory (Opened regs steps) None = inr refl
 told_by (Some (event.Abort by)) setting memory (Opened regs steps) (Some depth) = inl refl
 told_by (Some (event.Abort by)) setting memory (Closed regs) doom =
@@ -67,28 +69,35 @@ none_under (Rate many kinds) = tt
 none_under Draw = tt
 
 told_under : (events : Events) (setting : Setting) (state : State) (doomed : Doomed) (pick : Pick) (outcome : Outcome) →
+    state.pending pick.core ≡ [] →
     IsUnder events pick.event → IsOwedUnder pick.event setting state doomed pick.core outcome
     → IsUnder events (event_told outcome)
-told_under events setting state doomed pick outcome under owed =
+told_under events setting state doomed pick outcome left under owed =
     let core : Core = state.cores pick.core in
+    let is : outcome ≡ owed_under pick.event setting state.memory [] core (doomed pick.core) =
+    owed ∙ owed_is pick.event setting state.memory (state.pending pick.core) core (doomed pick.core) left in
     elim (told_by pick.event setting state.memory core (doomed pick.core)) [
-      | inl none ↦ subst (λ (e : Option Event). IsUnder events e) (sym (ap event_told owed ∙ none)) (none_under events)
-      | inr same ↦ subst (λ (e : Option Event). IsUnder events e) (sym (ap event_told owed ∙ same)) under
+      | inl none ↦ subst (λ (e : Option Event). IsUnder events e) (sym (ap event_told is ∙ none)) (none_under events)
+      | inr same ↦ subst (λ (e : Option Event). IsUnder events e) (sym (ap event_told is ∙ same)) under
     ]
 
 -- so the picks that they tell come under those that may be drawn
 pub all_told_under : (events : Events) (setting : Setting) (state : State) (doomed : Doomed)
-    (steps : List (Pick × Outcome)) →
+    (steps : List (Pick × Outcome)) → setting.store_buffer ≡ 0 → NonePending state →
     AreOwedUnder setting state doomed steps → AreUnder events (picks_made steps) → AreUnder events (picks_told steps)
-all_told_under events setting state doomed [] owed under = All-nil (λ (p : Pick). IsUnder events p.event)
-all_told_under events setting state doomed (made ∷ steps) owed under =
+all_told_under events setting state doomed [] off none owed under = All-nil (λ (p : Pick). IsUnder events p.event)
+all_told_under events setting state doomed (made ∷ steps) off none owed under =
     let P : Pick → Type 0 = λ p. IsUnder events p.event in
-    All-cons P (pick_of (made.0.core, made.1)) (picks_told steps)
-    (told_under events setting state doomed made.0 made.1 (All-head P made.0 (picks_made steps) under) owed.0)
-    ((elim (step setting state made.0.core made.1) as (λ t.
+    (elim (step setting state made.0.core made.1) as (λ t. step setting state made.0.core made.1 ≡ t →
     MatchOption t ⊥ (λ next. AreOwedUnder setting next (doomed_after setting state doomed made.0.core made.1) steps)
-    → AreUnder events (picks_told steps)) [
-      | None ↦ λ never. absurd never
-      | Some next ↦ λ more. all_told_under events setting next (doomed_after setting state doomed made.0.core made.1)
-          steps more (All-tail P made.0 (picks_made steps) under)
-    ]) owed.1)
+    → AreUnder events (picks_told (made ∷ steps))) [
+      | None ↦ λ is never. absurd never
+      | Some next ↦ λ is more.
+          All-cons P (pick_of (made.0.core, made.1)) (picks_told steps)
+          (told_under events setting state doomed made.0 made.1
+          (none made.0.core (within setting state made.0.core made.1 next is))
+          (All-head P made.0 (picks_made steps) under) owed.0)
+          (all_told_under events setting next (doomed_after setting state doomed made.0.core made.1) steps off
+          (none_behind setting state made.0.core made.1 next off none is) more
+          (All-tail P made.0 (picks_made steps) under))
+    ]) refl owed.1

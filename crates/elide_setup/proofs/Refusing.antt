@@ -5,13 +5,15 @@ use Rattle.std.specs.Prelude.{IfSome, is_some, not, ◌||◌}
 use Rattle.elide_args.specs.declared.subcommand.MachineOptions.{MachineOptions}
 use Rattle.elide_args.specs.declared.subcommand.ScheduleOptions.{ScheduleOptions}
 use Rattle.elide_program.specs.Entries.{AreStarts}
+use Rattle.elide_program.specs.Files.{Gives, most_bytes}
 use Rattle.elide_program.specs.ProgramFile.{IsRead, TellsLoad}
 use Rattle.elide_program.specs.Settings.{AreSettings}
 use Rattle.elide_program.specs.declared.fault.ProgramRefusal.{ProgramRefusal}
 use Rattle.elide_program.specs.declared.file.ProgramFile.{ProgramFile}
 use Rattle.elide_program.specs.declared.settings.Settings.{Settings}
-use Rattle.elide_setup.specs.Refused.{HasNoSchedule, IsNotLoaded, IsNotPlanned, IsNotScheduled, no_file, no_setup}
-use Rattle.elide_setup.specs.Refused.{not_loaded, plan_path, refused, uncharted, unloaded}
+use Rattle.elide_setup.specs.Refused.{GivesNoProgram, HasNoSchedule, IsNotLoaded, IsNotPlanned, IsNotScheduled}
+use Rattle.elide_setup.specs.Refused.{is_none, is_not_loaded, no_file, no_program, no_setup, not_loaded, plan_path}
+use Rattle.elide_setup.specs.Refused.{refused, uncharted, unloaded}
 use Rattle.elide_setup.specs.declared.fault.Refusal.{Refusal}
 use Rattle.elide_setup.specs.declared.plan.Plan.{Plan}
 
@@ -39,6 +41,16 @@ not_scheduled content after options schedule file settings asked why kept read s
     (subst (λ (p : Option (Bor (List ℕ))). IfSome p (λ (path : Bor (List ℕ)). schedule.path ≡ Some path)) h.planned
     path)
     (subst (λ (text : Option (List ℕ)). HasNoSchedule text why) (kept h.path.now) h.none)
+
+-- a text that FILE gives is no program, or is not loaded
+pub no_program_given : (content : List ℕ → Option (List ℕ)) (options : MachineOptions) (schedule : ScheduleOptions)
+    (text : List ℕ) (settings : Settings) (why : Refusal) → Gives (content options.file.now) most_bytes text →
+    AreSettings options settings → GivesNoProgram text settings why → IsNotScheduled content options schedule why
+no_program_given content options schedule text settings why given said (is_none cause none told) =
+    no_setup cause (no_program text given none) told
+no_program_given content options schedule text settings why given said (is_not_loaded file cause read none told) =
+    no_setup cause
+    (not_loaded file settings (record { text = text; given = given; read = read }) said none) told
 
 -- ---- ways to say a schedule
 

@@ -25,7 +25,7 @@ use Rattle.elide_setup.specs.Walks.{Leads, PartsLead, steps_in}
 -- before the first step
 pub run_of_none : (program : Program) (limits : Limits) (machine : Machine)
     → StandsFor machine (opening_state program) (λ _. None) →
-    machine_setting machine ≡ program_setting program limits.read_lines limits.write_lines
+    machine_setting machine ≡ program_setting program limits.read_lines limits.write_lines 0
     → length machine.views ≡ length program.entries →
     IsRunOf program limits [] machine
 run_of_none program limits machine stands rules cores = record {
@@ -125,8 +125,8 @@ board_step before after pick outcome same history owed was law =
     let k : Setting = board_setting before in
     let opening : State = opening_state before.program in
     let same_rules : board_setting after ≡ k =
-    ap (λ (p : Program). program_setting p after.limits.read_lines after.limits.write_lines) same.program
-    ∙ ap (λ (l : Limits). program_setting before.program l.read_lines l.write_lines) same.limits in
+    ap (λ (p : Program). program_setting p after.limits.read_lines after.limits.write_lines 0) same.program
+    ∙ ap (λ (l : Limits). program_setting before.program l.read_lines l.write_lines 0) same.limits in
     let is : run k opening (before.history ++ (pick.core, outcome) ∷ []) ≡ Some law.end =
     ap (λ (l : List (ℕ × Outcome)). run k opening l) (sym history)
     ∙ ap (λ (s : Setting). run s opening after.history) (sym same_rules)
@@ -145,8 +145,8 @@ made_more steps others now after made h =
     let k : Setting = board_setting now in
     let opening : State = opening_state now.program in
     let same_rules : board_setting after ≡ k =
-    ap (λ (p : Program). program_setting p after.limits.read_lines after.limits.write_lines) h.same.program
-    ∙ ap (λ (l : Limits). program_setting now.program l.read_lines l.write_lines) h.same.limits in
+    ap (λ (p : Program). program_setting p after.limits.read_lines after.limits.write_lines 0) h.same.program
+    ∙ ap (λ (l : Limits). program_setting now.program l.read_lines l.write_lines 0) h.same.limits in
     let was : run k opening (history_made steps) ≡ Some h.was.end =
     subst (λ (l : List (ℕ × Outcome)). run k opening l ≡ Some h.was.end) made.history h.was.is_run in
     let next : AreOwedUnder k h.was.end (doomed_at_end k opening none (history_made steps)) others =

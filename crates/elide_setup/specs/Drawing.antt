@@ -10,6 +10,8 @@ use Rattle.tm_pick.specs.declared.events.Events.{Events}
 use Rattle.tm_pick.specs.declared.events.Events.TheVariants.{Never, Rate, Draw}
 use Rattle.elide_program.specs.Settings.{word32}
 use Rattle.elide_setup.specs.Events.{events_said}
+use Rattle.elide_setup.specs.declared.plan.Course.{Course}
+use Rattle.elide_setup.specs.declared.plan.Course.TheVariants as course
 use Rattle.elide_setup.specs.declared.plan.Drawn.{Drawn}
 use Rattle.elide_setup.specs.declared.plan.Plan.{Plan}
 use Rattle.elide_setup.specs.declared.plan.Plan.TheVariants as plan
@@ -62,6 +64,11 @@ abbrev pub IsAskedDraw : ScheduleOptions → Plan → Type 0
 IsAskedDraw options (plan.Steps listed) = SaysNoDraw options
 IsAskedDraw options (plan.File path) = SaysNoDraw options
 IsAskedDraw options (plan.Drawn drawn) = IsDrawn options drawn
+
+-- the same of a course
+abbrev pub IsCourseDraw : ScheduleOptions → Course → Type 0
+IsCourseDraw options (course.Listed listed) = SaysNoDraw options
+IsCourseDraw options (course.Drawn drawn) = IsDrawn options drawn
 
 -- an event that may be drawn
 abbrev pub IsUnder : Events → Option Event → Type 0

@@ -24,9 +24,9 @@ kind_said name =
 
 -- these kinds and another one
 abbrev pub and_kind : Kinds → Interference → Kinds
-and_kind kinds Interrupt = record { interrupt = true; eviction = kinds.eviction; snoop = kinds.snoop }
-and_kind kinds Eviction = record { interrupt = kinds.interrupt; eviction = true; snoop = kinds.snoop }
-and_kind kinds Snoop = record { interrupt = kinds.interrupt; eviction = kinds.eviction; snoop = true }
+and_kind kinds Interrupt = record kinds { interrupt = true }
+and_kind kinds Eviction = record kinds { eviction = true }
+and_kind kinds Snoop = record kinds { snoop = true }
 
 -- the same, where that is none of them
 abbrev pub with_kind : Kinds → Option Interference → Option Kinds

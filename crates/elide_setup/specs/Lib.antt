@@ -1,6 +1,9 @@
 pub mod Drawing
 pub mod Events
+pub mod Extents
 pub mod Faults
+pub mod Jobs
+pub mod Loaded
 pub mod Made
 pub mod Misuse
 pub mod Owing

@@ -70,6 +70,13 @@ pub data IsNotLoaded (file : ProgramFile) (settings : Settings) (why : ProgramRe
       → (length starts ≤ 64 → AreStarts file settings.entries settings.cores starts)
       → TellsLoad file settings.memory starts why → IsNotLoaded file settings why
 
+-- a text gives no program: it is none, or it is not loaded as the settings say
+pub data GivesNoProgram (text : List ℕ) (settings : Settings) (why : Refusal) : Type 0 where
+  is_none : (cause : ProgramRefusal) → IsNoProgram text cause → why ≡ refusal_of cause
+      → GivesNoProgram text settings why
+  is_not_loaded : (file : ProgramFile) (cause : ProgramRefusal) → IsFile text file → IsNotLoaded file settings cause
+      → why ≡ refusal_of cause → GivesNoProgram text settings why
+
 -- the program of FILE, of this content, is not had: an option of its machine is misread, FILE is not read, its content
 -- is no program, or that is not loaded
 pub data HasNoProgram (content : Option (List ℕ)) (options : MachineOptions) (why : ProgramRefusal) : Type 0 where

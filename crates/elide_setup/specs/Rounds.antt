@@ -27,6 +27,7 @@ is_stop outcome.Inside = false
 is_stop outcome.Committed = false
 is_stop (outcome.Aborted status) = false
 is_stop (outcome.AbortedBy by status) = false
+is_stop outcome.Drained = false
 
 -- a core has stopped with one of these steps
 abbrev pub has_stopped : List (Pick × Outcome) → ℕ → Bool

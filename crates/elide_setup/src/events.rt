@@ -23,6 +23,7 @@ const NONE: Kinds = Kinds {
     interrupt: false,
     eviction: false,
     snoop: false,
+    drain: false,
 };
 
 /// The kinds where none are said.
@@ -30,6 +31,7 @@ const INTERRUPTS: Kinds = Kinds {
     interrupt: true,
     eviction: false,
     snoop: false,
+    drain: false,
 };
 
 /// The events of `1/N`: one step in N, 1 to 65,536, comes under an interrupt, or under an event of the kinds that stand
@@ -150,22 +152,26 @@ fn with_kind(kinds: Kinds, by: Interference) -> Option<Kinds>
         interrupt,
         eviction,
         snoop,
+        drain,
     } = kinds;
     match by {
         Interference::Interrupt => Some(Kinds {
             interrupt: true,
             eviction,
             snoop,
+            drain,
         }),
         Interference::Eviction => Some(Kinds {
             interrupt,
             eviction: true,
             snoop,
+            drain,
         }),
         Interference::Snoop => Some(Kinds {
             interrupt,
             eviction,
             snoop: true,
+            drain,
         }),
     }
 }

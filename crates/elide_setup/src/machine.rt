@@ -14,6 +14,8 @@ ghost use Rattle.elide_program.specs.Parts.{AreParts};
 ghost use Rattle.elide_program.specs.ProgramFile.{TellsLoad};
 ghost use Rattle.elide_program.specs.declared.fault.ProgramRefusal.{ProgramRefusal};
 ghost use Rattle.elide_program.specs.declared.file.ProgramFile.{ProgramFile};
+ghost use Rattle.elide_args.specs.declared.subcommand.ScheduleOptions.{ScheduleOptions};
+ghost use Rattle.elide_setup.specs.Drawing.{IsAskedDraw, IsCourseDraw};
 ghost use Rattle.elide_setup.specs.Faults.{refusal_of};
 ghost use Rattle.elide_setup.specs.Refused.{IsNoBoard, IsNoMachine, IsNotLoaded, IsNotPlanned};
 ghost use Rattle.elide_setup.specs.Rounds.{IsOut, IsPlannedOut};
@@ -101,6 +103,8 @@ pub fn planned<P: Paths>(
     ensures setup { IfOk result (λ r. IsSetup file.now settings.now r.0) }
     ensures course { IfOk result (λ r. (picks : List Pick) → AreOf r.1 picks →
         ArePlanned (P.content paths.old) plan.entry picks) }
+    ensures draw { (options : ScheduleOptions) → IsAskedDraw options plan.entry →
+        IfOk result (λ r. IsCourseDraw options r.1) }
     ensures listed { IfOk result (λ r. form_of r.1 ≡ plan_form plan.entry) }
     ensures out { IfOk result (λ r. (cores : ℕ) (steps : List (Pick × Outcome)) → IsOut r.1 cores steps →
         IsPlannedOut plan.entry cores steps) }

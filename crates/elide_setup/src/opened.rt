@@ -1,30 +1,32 @@
-//! What a command that runs a schedule begins with, of one reading of FILE.
+//! What a command that runs a schedule begins with, of one reading of FILE: `run` and `replay`.
 //!
-//! [`Opened::read`] goes in the order in which faults are told: the machine's options, the schedule's, FILE, the
-//! program in it, and what [`planned`] tells. Where the program's instructions and labels stand is taken last, where it
-//! is asked for, and only memory can be wanting for it. No machine is made here: that is `machine`.
+//! [`Opened::read`] is [`LoadedFile::with_course`], whose order of faults it has, without what these two do not ask for.
+//! No machine is made here: that is `machine`.
+//!
+//! Other commands ask FILE for more, or for it at another time, and so do without it:
+//!
+//! - `debug` and `gdb` want FILE's symbols, too: with a schedule [`LoadedFile::with_course`] itself is theirs.
+//! - `draw`, `page` and the sessions without a schedule take [`LoadedFile::of_text`]: what they read of a schedule's file
+//!   comes behind FILE's program, and its faults with it.
+//! - `hunt` and `outcomes` test their checks and names on the file that was read, before it is loaded, and `stats` and
+//!   `threads` name by it what they count: they keep it in hand.
 
-ghost use Rattle.std.specs.Prelude.{◌≡◌, ℕ, IfErr, IfOk, IfSome, List, Option, Some};
+ghost use Rattle.std.specs.Prelude.{◌≡◌, ℕ, IfErr, IfOk, List};
 ghost use Rattle.tm_model.specs.declared.outcome.Outcome.{Outcome};
 ghost use Rattle.tm_model.specs.declared.outcome.Pick.{Pick};
-ghost use Rattle.elide_args.specs.declared.subcommand.MachineOptions.{MachineOptions};
-ghost use Rattle.elide_args.specs.declared.subcommand.ScheduleOptions.{ScheduleOptions};
-ghost use Rattle.elide_program.specs.Files.{Gives, most_bytes};
-ghost use Rattle.elide_program.specs.ProgramFile.{IsFile};
-ghost use Rattle.elide_program.specs.declared.file.ProgramFile.{ProgramFile};
-ghost use Rattle.elide_program.specs.Settings.{AreSettings};
-ghost use Rattle.elide_setup.specs.Refused.{IsNotScheduled, plan_path};
-ghost use Rattle.elide_setup.specs.Rounds.{IsAskedOut, IsOut, IsPlannedOut};
-ghost use Rattle.elide_setup.specs.Schedules.{AreAsked, AreOf, ArePlanned, form_asked, form_of, plan_form};
-ghost use Rattle.elide_setup.specs.Setup.{IsAsked, IsSetup};
+ghost use Rattle.elide_setup.specs.Refused.{IsNotScheduled};
+ghost use Rattle.elide_setup.specs.Rounds.{IsAskedOut, IsOut};
+ghost use Rattle.elide_setup.specs.Schedules.{AreAsked, AreOf, form_asked, form_of};
+ghost use Rattle.elide_setup.specs.Setup.{IsAsked};
 
 use crate::fault::Refusal;
-use crate::machine::{Setup, planned};
-use crate::plan::{Course, Plan};
+use crate::loaded::LoadedFile;
+use crate::machine::Setup;
+use crate::plan::Course;
 use elide_args::{MachineOptions, ScheduleOptions};
-use elide_places::Places;
-use elide_program::{Paths, ProgramFile, Settings, read_file};
-use std::alloc::{AllocError, Global};
+use elide_places::{Places, Wants};
+use elide_program::Paths;
+use std::alloc::Global;
 
 /// A program that was read, and what is to be run of it.
 #[derive(Drop)]
@@ -55,57 +57,15 @@ impl Opened {
             IsAskedOut schedule.now cores steps) }
         ensures none { IfErr result (IsNotScheduled (P.content paths.old) machine.now schedule.now) }
     {
-        let settings = Settings::read(machine)?;
-        let plan = Plan::read(alloc, schedule)?;
-        let text = read_file(machine.file, paths)?;
-        let opened = Opened::of_text(alloc, &settings, plan, text.as_slice(), wants_places, paths);
-        drop(text);
-        opened
-    }
-
-    // What [`Opened::read`] does once FILE is read, of a file of this text.
-    fn of_text<P: Paths>(
-        alloc: Global,
-        settings: &Settings<'_>,
-        plan: Plan<'_>,
-        text: &[u8],
-        wants_places: bool,
-        paths: &mut P,
-    ) -> Result<Opened, Refusal>
-        ensures setup { IfOk result (λ r. (file : ProgramFile) × IsFile text.now file
-            × IsSetup file settings.now r.setup) }
-        ensures course { IfOk result (λ r. (picks : List Pick) → AreOf r.course picks →
-            ArePlanned (P.content paths.old) plan.entry picks) }
-        ensures listed { IfOk result (λ r. form_of r.course ≡ plan_form plan.entry) }
-        ensures out { IfOk result (λ r. (cores : ℕ) (steps : List (Pick × Outcome)) → IsOut r.course cores steps →
-            IsPlannedOut plan.entry cores steps) }
-        ensures none { (content : List ℕ → Option (List ℕ)) (machine : MachineOptions) (schedule : ScheduleOptions) →
-            ((other : List ℕ) → P.content paths.old other ≡ content other) →
-            Gives (content machine.file.now) most_bytes text.now → AreSettings machine settings.now →
-            IfSome (plan_path plan.entry) (λ path. schedule.path ≡ Some path) →
-            IfErr result (IsNotScheduled content machine schedule) }
-    {
-        let file = ProgramFile::read(alloc, text)?;
-        let (setup, course) = planned(alloc, settings, plan, &file, paths)?;
-        let places = places_of(alloc, &file, text, wants_places)?;
+        let wants = Wants {
+            places: wants_places,
+            symbols: false,
+        };
+        let (loaded, course) = LoadedFile::with_course(alloc, machine, schedule, wants, paths)?;
         Ok(Opened {
-            setup,
+            setup: loaded.setup,
             course,
-            places,
+            places: loaded.names.places,
         })
-    }
-}
-
-// The places of a file that was read from this text, where they are wanted.
-fn places_of(
-    alloc: Global,
-    file: &ProgramFile<'_>,
-    text: &[u8],
-    are_wanted: bool,
-) -> Result<Places, AllocError> {
-    if are_wanted {
-        Places::of_file(alloc, file, text)
-    } else {
-        Ok(Places::none(alloc))
     }
 }

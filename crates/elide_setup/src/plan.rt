@@ -16,8 +16,8 @@ ghost use Rattle.tm_model.specs.declared.outcome.Outcome.{Outcome};
 ghost use Rattle.tm_model.specs.declared.outcome.Pick.{Pick};
 ghost use Rattle.tm_pick.specs.Drawn.{AreDrawn};
 ghost use Rattle.tm_schedule.specs.Schedule.{schedule_of, steps_of};
-ghost use Rattle.elide_setup.specs.Drawing.{IsAskedDraw, IsDrawn, IsEventSeed, IsSeed, SaysNoDraw, events_asked};
-ghost use Rattle.elide_setup.specs.Drawing.{limit_said, may_come};
+ghost use Rattle.elide_setup.specs.Drawing.{IsAskedDraw, IsCourseDraw, IsDrawn, IsEventSeed, IsSeed, SaysNoDraw};
+ghost use Rattle.elide_setup.specs.Drawing.{events_asked, limit_said, may_come};
 ghost use Rattle.elide_setup.specs.Events.{events_said};
 ghost use Rattle.elide_setup.specs.Misuse.{IsMisuse};
 ghost use Rattle.elide_setup.specs.Refused.{HasNoCourse, HasNoSchedule, IsMisplanned, is_no_way, is_one_way, plan_path};
@@ -87,6 +87,8 @@ impl<'a> Plan<'a> {
     pub fn course<P: Paths>(self, alloc: Global, paths: &mut P) -> Result<Course, Refusal>
         ensures steps { IfOk result (λ course. (picks : List Pick) → AreOf course picks →
             ArePlanned (P.content paths.old) self.entry picks) }
+        ensures draw { (options : ScheduleOptions) → IsAskedDraw options self.entry →
+            IfOk result (IsCourseDraw options) }
         ensures listed { IfOk result (λ course. form_of course ≡ plan_form self.entry) }
         ensures out { IfOk result (λ course. (cores : ℕ) (steps : List (Pick × Outcome)) → IsOut course cores steps →
             IsPlannedOut self.entry cores steps) }

@@ -41,7 +41,7 @@ use tm_model::{Outcome, Pick};
 use tm_pick::Going;
 
 /// After how many steps it is told how far a run is.
-const PORTION: usize = 65536;
+pub const PORTION: usize = 65536;
 
 /// How many steps of one core side by side are made as a run: fewer cost less one by one.
 const SHORTEST: usize = 3;
@@ -90,6 +90,7 @@ impl StepMaker for Machine {
 
     // One call, in which a step costs a third of what it costs by itself.
     fn make_run(&mut self, core: u8, most: u32) -> Result<u32, Refusal> {
+        self.nothing_pending();
         ran(self.steps_alone(core, most))
     }
 }

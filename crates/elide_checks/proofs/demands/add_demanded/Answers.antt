@@ -1,6 +1,5 @@
 use Rattle.std.proofs.Common.{codes}
 use Rattle.std.proofs.lemmas.Result.{err_from_is_err_and}
-use Rattle.tm_check.specs.declared.check.Check.{Check}
 use Rattle.tm_check.specs.declared.check.Check.TheVariants.{Demanded}
 use Rattle.elide_checks.specs.Checks.{IsDemanded}
 use Rattle.elide_checks.specs.Constants.{is_among}
@@ -12,8 +11,7 @@ use Rattle.elide_checks.proofs.demands.add_demanded.Goals as goal
 pub loop-text-preserved : goal.loop-text-preserved
 loop-text-preserved c =
     let scope = c.args.scope.now in
-    one_added
-    (λ text (check : Check). IsDemanded scope.file.now (is_among scope.constants.now.names.items) text.now check)
+    one_added (IsDemanded scope.file.now (is_among scope.constants.now.names.items))
     c.args.texts.now c.loop-text.text-index c.args.checks.now.items _ _
     (Demanded c.in_ok-clauses.clauses) c.loop-text-test.true c.loop-text.invariant c.in_ok-add.ensures
     c.in_ok-clauses.ensures

@@ -1,7 +1,6 @@
 use Rattle.std.proofs.Common.{get_or, inl, refl}
 use Rattle.std.proofs.lemmas.List.Elements.{Contains-get_or}
 use Rattle.std.proofs.lemmas.Result.{err_from_is_err_and}
-use Rattle.tm_check.specs.declared.check.Check.{Check}
 use Rattle.tm_check.specs.declared.check.Check.TheVariants.{NoStop}
 use Rattle.elide_checks.specs.Checks.{IsStopCheck}
 use Rattle.elide_checks.proofs.Zips.{no_text, one_added}
@@ -9,7 +8,7 @@ use Rattle.elide_checks.proofs.demands.add_stops.Goals as goal
 
 pub loop-word-preserved : goal.loop-word-preserved
 loop-word-preserved c =
-    one_added (λ word (check : Check). IsStopCheck word.now check)
+    one_added IsStopCheck
     c.args.words.now c.loop-word.word-index c.args.checks.now.items _ _
     (NoStop c.in_ok-why.why) c.loop-word-test.true c.loop-word.invariant c.in_ok-add.ensures
     (c.in_ok-why.why, refl, c.in_ok-why.ensures)

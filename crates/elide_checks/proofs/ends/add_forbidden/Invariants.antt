@@ -1,12 +1,10 @@
-use Rattle.std.proofs.Common.{◌≡◌, ◌++◌, List, take}
-use Rattle.std.specs.List.{AllZip}
-use Rattle.tm_condition.specs.declared.check.Check.{Check}
+use Rattle.std.proofs.Common.{take}
+use Rattle.elide_checks.specs.Added.{AreAdded}
 use Rattle.elide_checks.specs.Ends.{IsEndForbidden}
 use Rattle.elide_checks.specs.Constants.{is_among}
 use Rattle.elide_checks.proofs.ends.add_forbidden.Given as goal
 
 -- each option so far has its check
 abbrev pub invariant-loop-text : goal.invariant-loop-text
-invariant-loop-text l = (more : List Check) × (l.checks.items ≡ l.initial.checks.items ++ more)
-    × AllZip (λ text check. IsEndForbidden l.scope.file.now (is_among l.scope.constants.now.names.items) text.now check)
-    (take l.text-index l.texts) more
+invariant-loop-text l = AreAdded (IsEndForbidden l.scope.file.now (is_among l.scope.constants.now.names.items))
+    (take l.text-index l.texts) l.initial.checks.items l.checks.items

@@ -16,7 +16,7 @@ loop-text-preserved c =
     c.in-Some.is c.dump_of.ensures in
     one_dump c.args.file.now c.args.texts.now _ _ c.loop-text.text-index empty _ c.loop-text-test.true
     c.loop-text.invariant is
-    c.in_ok-add.ensures.added
+    c.in_ok-add.ensures
 
 pub returns-in_default-clause-none : goal.returns-in_default-clause-none
 returns-in_default-clause-none c =

@@ -27,3 +27,6 @@ returns-in_err-setup-clause-none g c =
     (not_loaded_with c.args.file.now c.args.settings.now c.in_ok-starts.starts.items c.as_slice.result.now h.0
     c.as_slice.ensures.value c.in_ok-starts.ensures.cores c.in_ok-starts.ensures.many c.in_ok-starts.ensures.starts h.2)
     h.1)
+
+pub returns-clause-draw : goal.returns-clause-draw
+returns-clause-draw g c = c.in_ok-course.ensures.draw

@@ -11,7 +11,7 @@ use Rattle.elide_program.proofs.entries.EntryList.addresses.Goals as goal
 pub loop-word-preserved : goal.loop-word-preserved
 loop-word-preserved c =
     one_entry c.args.file.now c.loop-word.yielded c.in-Some.word _ _ _ c.loop-word.invariant c.in_ok-address.ensures
-    c.in_ok-add.ensures.added
+    c.in_ok-add.ensures
 
 pub returns-clause-entries : goal.returns-clause-entries
 returns-clause-entries c =

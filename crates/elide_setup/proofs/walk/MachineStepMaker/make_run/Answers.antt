@@ -6,7 +6,7 @@ use Rattle.elide_setup.proofs.walk.MachineStepMaker.make_run.Goals as goal
 pub returns-clause-steps : goal.returns-clause-steps
 returns-clause-steps c =
     machine_ran c.args.self.now c.steps_alone.new.self c.args.core c.steps_alone.result c.ran.result
-    c.steps_alone.ensures.steps
+    c.nothing_pending.ensures.most c.nothing_pending.ensures.none c.steps_alone.ensures.steps
     c.ran.ensures.made
 
 pub returns-clause-refused : goal.returns-clause-refused
