@@ -1,11 +1,11 @@
 -- What stands before the steps, one behind the other.
 use Rattle.std.proofs.Common.{◌≡◌, ℕ, List, ◌++◌, refl}
+use Rattle.elide_program.specs.Names.{IsNameOf}
 use Rattle.text_out.proofs.Writing.{wrote_then}
 use Rattle.text_out.specs.Writing.{Device, Wrote}
 use Rattle.page_run.specs.Plain.{ArePlain, WrotePlain}
 use Rattle.elide_page.proofs.Pieces.{both_plain}
 use Rattle.elide_page.specs.Fronts.{IsFrontOf, lists_text, names_text}
-use Rattle.elide_page.specs.Names.{IsNameOf}
 use Rattle.elide_page.specs.declared.job.Job.{Job}
 use Rattle.elide_page.specs.declared.shows.Shown.{Shown}
 

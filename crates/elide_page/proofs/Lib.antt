@@ -1,4 +1,3 @@
-pub mod Names
 pub mod Noting
 pub mod Listing
 pub mod Pieces

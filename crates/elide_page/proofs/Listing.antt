@@ -1,7 +1,7 @@
 -- Variables, and one more.
 use Rattle.std.proofs.Common.{◌≡◌, ◌∙◌, Bool, true, List, [], ◌∷◌, ◌++◌, ap, append_assoc, append-nil, refl, sym}
+use Rattle.page_text.specs.Commas.{comma_if}
 use Rattle.elide_page.specs.Fronts.{shown_text, shows_text}
-use Rattle.elide_page.specs.Notes.{comma_if}
 use Rattle.elide_page.specs.declared.shows.Shown.{Shown}
 
 -- whether one was written

@@ -8,7 +8,7 @@ use Rattle.elide_program.specs.ProgramFile.{IsFile}
 use Rattle.elide_program.specs.declared.file.ProgramFile.{ProgramFile}
 use Rattle.elide_program.specs.Settings.{AreSettings}
 use Rattle.elide_program.specs.declared.settings.Settings.{Settings}
-use Rattle.elide_setup.specs.Refused.{IsNotPaged, IsUnwritten, NamesNoCore}
+use Rattle.elide_setup.specs.Refused.{GivesNoProgram, IsNotPaged, IsUnwritten, NamesNoCore, is_none, is_not_loaded}
 use Rattle.elide_setup.specs.Schedules.{listed_in}
 use Rattle.elide_setup.specs.Setup.{IsSetup}
 use Rattle.tm_core.specs.Theorem.{ShownMachine as Machine}
@@ -21,7 +21,7 @@ use Rattle.elide_why.specs.Refused.{IsUntoldStep}
 use Rattle.page_run.specs.Refused.{IsNotMade, IsNotSurveyed, IsNotTold}
 use Rattle.page_run.specs.declared.stretch.Stretch.{Stretch}
 use Rattle.elide_page.specs.Pages.{IsPageOf}
-use Rattle.elide_page.specs.Refused.{GivesNoProgram, IsNoPage, IsUnreasoned, is_none, unloaded}
+use Rattle.elide_page.specs.Refused.{IsNoPage, IsUnreasoned}
 use Rattle.elide_page.specs.declared.output.PageFile.{PageFile}
 
 -- ---- a step
@@ -65,7 +65,7 @@ pub no_program_of : (text : List ℕ) (options : MachineOptions) (picks : List P
     (why : Refusal) →
     AreSettings options settings → GivesNoProgram text settings why → IsNotPaged text options picks why
 no_program_of text options picks settings why said (is_none cause h told) = IsNotPaged.no_program cause h told
-no_program_of text options picks settings why said (unloaded file cause read h told) =
+no_program_of text options picks settings why said (is_not_loaded file cause read h told) =
     IsNotPaged.not_loaded file settings cause read said h told
 
 pub not_paged_of : (text : List ℕ) (options : MachineOptions) (picks : List Pick) (settings : Settings)

@@ -1,11 +1,12 @@
 -- What stands in a page's data before its steps (docs/FORMATS.md, "Pages"; page/README.md).
 use Rattle.std.specs.Prelude.{◌≡◌, ℕ, Bool, true, false, List, [], ◌∷◌, ◌++◌, codes, decimal, length}
+use Rattle.elide_program.specs.Names.{IsNameOf}
 use Rattle.elide_program.specs.declared.form.Form.{Form}
 use Rattle.elide_program.specs.declared.form.Form.TheVariants as form
 use Rattle.page_run.specs.Plain.{ArePlain}
+use Rattle.page_text.specs.Commas.{comma_if}
 use Rattle.page_text.specs.Escaped.{string_text}
-use Rattle.elide_page.specs.Names.{IsNameOf}
-use Rattle.elide_page.specs.Notes.{comma_if, notes_text}
+use Rattle.elide_page.specs.Notes.{notes_text}
 use Rattle.elide_page.specs.declared.job.Job.{Job}
 use Rattle.elide_page.specs.declared.job.Subject.{Subject}
 use Rattle.elide_page.specs.declared.shows.Shown.{Shown}

@@ -1,4 +1,3 @@
-pub mod Names
 pub mod Notes
 pub mod Fronts
 pub mod Reasons

@@ -5,6 +5,7 @@ use Rattle.std.specs.List.{after_first, before_first, position_or_len}
 use Rattle.std.specs.Option.{option_map}
 use Rattle.elide_program.specs.Settings.{number_said}
 use Rattle.page_run.specs.declared.window.Window.{Window}
+use Rattle.page_text.specs.Commas.{comma_if}
 use Rattle.page_text.specs.Escaped.{string_text}
 use Rattle.elide_page.specs.declared.notes.Note.{Note}
 
@@ -38,9 +39,6 @@ is_outside window note = nat_lt note.step window.from || nat_lt window.to note.s
 abbrev pub note_text : Window → Note → List ℕ
 note_text window note =
     codes "[" ++ (decimal (note.step - window.from) ++ (codes "," ++ (string_text note.text.now 600 ++ codes "]")))
-
-abbrev pub comma_if : Bool → List ℕ
-comma_if some = if some then codes "," else []
 
 -- what is written of a note behind others, and whether one was written then: none is that stands outside of the page
 abbrev pub piece_text : Window → Bool → Note → List ℕ

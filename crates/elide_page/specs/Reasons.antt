@@ -26,6 +26,7 @@ has_reason outcome.Idle = false
 has_reason outcome.Begun = false
 has_reason outcome.Inside = false
 has_reason outcome.Committed = false
+has_reason outcome.Drained = false
 
 -- of a step behind so many others: it stands in the page, and has a reason
 abbrev pub is_told : Window → ℕ → Outcome → Bool

@@ -1,12 +1,6 @@
 -- Why a page is not written (docs/FAULTS.md).
 use Rattle.std.specs.Prelude.{◌≡◌, ◌⊎◌, ℕ, List}
-use Rattle.elide_program.specs.ProgramFile.{IsFile}
-use Rattle.elide_program.specs.declared.file.ProgramFile.{ProgramFile}
-use Rattle.elide_program.specs.declared.fault.ProgramRefusal.{ProgramRefusal}
-use Rattle.elide_program.specs.Refusals.{IsNoProgram}
-use Rattle.elide_program.specs.declared.settings.Settings.{Settings}
-use Rattle.elide_setup.specs.Faults.{refusal_of}
-use Rattle.elide_setup.specs.Refused.{IsNoCore, IsNotLoaded, IsUntold}
+use Rattle.elide_setup.specs.Refused.{IsNoCore, IsUntold}
 use Rattle.tm_core.specs.Theorem.{ShownMachine as Machine}
 use Rattle.elide_setup.specs.declared.fault.Fault.TheVariants as fault
 use Rattle.elide_setup.specs.declared.fault.Refusal.{Refusal}
@@ -15,13 +9,6 @@ use Rattle.elide_setup.specs.declared.machine.Setup.{Setup}
 use Rattle.elide_setup.specs.declared.plan.Course.{Course}
 use Rattle.tm_model.specs.declared.outcome.Pick.{Pick}
 use Rattle.page_run.specs.Refused.{IsNotSurveyed}
-
--- a text gives no program: it is none, or it is not loaded as the settings say
-pub data GivesNoProgram (text : List ℕ) (settings : Settings) (why : Refusal) : Type 0 where
-  is_none : (cause : ProgramRefusal) → IsNoProgram text cause → why ≡ refusal_of cause
-      → GivesNoProgram text settings why
-  unloaded : (file : ProgramFile) (cause : ProgramRefusal) → IsFile text file → IsNotLoaded file settings cause
-      → why ≡ refusal_of cause → GivesNoProgram text settings why
 
 -- a step whose reason is told is refused: there is no such core, its line is not written, or there is no memory for it
 abbrev pub IsUnreasoned : Machine → Pick → Refusal → Type 0

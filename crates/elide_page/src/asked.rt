@@ -6,8 +6,7 @@
 use crate::notes::{Note, notes_of};
 use elide_args::PageOptions;
 use elide_program::Paths;
-use elide_setup::Refusal;
-use page_run::Extent;
+use elide_setup::{Extent, Refusal};
 use std::alloc::Global;
 
 /// What is asked for beside the program and its schedule.

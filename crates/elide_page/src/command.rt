@@ -4,24 +4,18 @@
 //! schedule's, FILE, the schedule's file, the run, the window and the notes. Nothing is written before the run is known
 //! to fit.
 
-ghost use Rattle.std.specs.Prelude.{IfErr, IfOk};
-ghost use Rattle.elide_program.specs.ProgramFile.{IsFile};
-ghost use Rattle.elide_program.specs.declared.file.ProgramFile.{ProgramFile};
-ghost use Rattle.elide_setup.specs.Setup.{IsSetup};
-ghost use Rattle.elide_page.specs.Refused.{GivesNoProgram};
-
 use crate::asked::Asked;
 use crate::commanded::command_of;
-use crate::job::{Job, Subject, name_of};
+use crate::job::{Job, Subject};
 use crate::notes::check_notes;
 use crate::output::{write_page, write_page_to};
 use elide_args::PageOptions;
 use elide_device::Progress;
-use elide_places::Places;
-use elide_program::{Form, Paths, ProgramFile, Settings, read_file};
-use elide_setup::{Course, Plan, Refusal, Setup};
+use elide_places::Wants;
+use elide_program::{Paths, Settings, name_of, read_file};
+use elide_setup::{Course, LoadedFile, Plan, Refusal};
 use page_program::{Loaded, Sources};
-use page_run::{Stretch, Survey, surveyed};
+use page_run::{Stretch, Survey, Window, surveyed};
 use std::alloc::Global;
 use text_out::Out;
 
@@ -53,10 +47,11 @@ struct Request<'a> {
     asked: &'a Asked<'a>,
 }
 
-// What was read beside it: the machine's options, and FILE.
-#[derive(Clone, Copy)]
+// What was read beside it: the machine's options, the schedule's, and FILE.
+#[derive(Drop)]
 struct Given<'a> {
     settings: &'a Settings<'a>,
+    plan: Plan<'a>,
     text: &'a [u8],
 }
 
@@ -64,17 +59,17 @@ struct Given<'a> {
 #[derive(Clone, Copy)]
 struct Ready<'a> {
     text: &'a [u8],
-    form: Form,
-    setup: &'a Setup,
-    places: &'a Places,
+    file: &'a LoadedFile,
     course: &'a Course,
 }
 
-// What is known of it behind the first pass over its run.
+/// What is known of a program behind the first pass over its run.
 #[derive(Clone, Copy)]
-struct Known<'a> {
-    survey: &'a Survey,
-    command: &'a [u8],
+pub struct Known<'a> {
+    /// What the pass came to.
+    pub survey: &'a Survey,
+    /// The command that makes the page.
+    pub command: &'a [u8],
 }
 
 // Reads the rest of the options, and FILE. What is made in one of these functions is lent to the next, and what owns
@@ -91,9 +86,10 @@ fn page_asked<P: Paths, O: Out + Drop, G: Progress>(
     let text = read_file(options.machine.file, paths)?;
     let given = Given {
         settings: &settings,
+        plan,
         text: text.as_slice(),
     };
-    let written = page_given(request, given, plan, paths, out, progress);
+    let written = page_given(request, given, paths, out, progress);
     drop(text);
     written
 }
@@ -101,43 +97,26 @@ fn page_asked<P: Paths, O: Out + Drop, G: Progress>(
 fn page_given<P: Paths, O: Out + Drop, G: Progress>(
     request: Request<'_>,
     given: Given<'_>,
-    plan: Plan<'_>,
     paths: &mut P,
     out: O,
     progress: &mut G,
 ) -> Result<O, Refusal> {
-    let (setup, places, form) = setup_of(request.alloc, given.settings, given.text)?;
+    let Given {
+        settings,
+        plan,
+        text,
+    } = given;
+    let file = LoadedFile::of_text(request.alloc, settings, text, Wants::PLACES)?;
     let course = plan.course(request.alloc, paths)?;
     let ready = Ready {
-        text: given.text,
-        form,
-        setup: &setup,
-        places: &places,
+        text,
+        file: &file,
         course: &course,
     };
     let written = page_ready(request, ready, paths, out, progress);
     drop(course);
-    drop(places);
-    drop(setup);
-    written
-}
-
-/// The program of a text, its places, and what it is written as.
-pub fn setup_of(
-    alloc: Global,
-    settings: &Settings<'_>,
-    text: &[u8],
-) -> Result<(Setup, Places, Form), Refusal>
-    ensures setup { IfOk result
-        (λ made. (file : ProgramFile) × IsFile text.now file × IsSetup file settings.now made.0) }
-    ensures none { IfErr result (GivesNoProgram text.now settings.now) }
-{
-    let file = ProgramFile::read(alloc, text)?;
-    let setup = Setup::of_file(alloc, settings, &file)?;
-    let places = Places::of_file(alloc, &file, text)?;
-    let form = file.form();
     drop(file);
-    Ok((setup, places, form))
+    written
 }
 
 fn page_ready<P: Paths, O: Out + Drop, G: Progress>(
@@ -149,7 +128,13 @@ fn page_ready<P: Paths, O: Out + Drop, G: Progress>(
 ) -> Result<O, Refusal> {
     let alloc = request.alloc;
     let asked = request.asked;
-    let survey = surveyed(alloc, ready.setup, ready.course, asked.extent, progress)?;
+    let survey = surveyed(
+        alloc,
+        &ready.file.setup,
+        ready.course,
+        asked.extent,
+        progress,
+    )?;
     let command = command_of(alloc, request.options)?;
     let known = Known {
         survey: &survey,
@@ -171,15 +156,15 @@ fn page_known<'x, P: Paths, O: Out + Drop>(
 ) -> Result<O, Refusal> {
     let asked = request.asked;
     let survey = known.survey;
-    let window = asked.extent.window(survey.made)?;
+    let window = Window::of(&asked.extent, survey.made)?;
     window.check()?;
     check_notes(asked.notes.as_slice(), survey.made)?;
     let options = request.options;
     let path = options.machine.file;
     let loaded = Loaded {
         alloc: request.alloc,
-        setup: ready.setup,
-        places: ready.places,
+        setup: &ready.file.setup,
+        places: &ready.file.names.places,
     };
     let sources = Sources::beside(loaded, path, survey.ran.as_slice(), paths)?;
     let job = Job {
@@ -187,7 +172,7 @@ fn page_known<'x, P: Paths, O: Out + Drop>(
             loaded,
             path,
             text: ready.text,
-            form: ready.form,
+            form: ready.file.form,
             sources: &sources,
             title: title_of(options),
             command: known.command,
@@ -196,7 +181,7 @@ fn page_known<'x, P: Paths, O: Out + Drop>(
         },
         stretch: Stretch {
             alloc: request.alloc,
-            setup: ready.setup,
+            setup: &ready.file.setup,
             course: ready.course,
             total: survey.made,
             window,

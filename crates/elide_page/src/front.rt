@@ -13,14 +13,14 @@ ghost use Rattle.elide_page.specs.Fronts.{IsFrontOf, cores_text, file_text, form
 ghost use Rattle.elide_page.specs.Fronts.{lists_text, names_text, reads_text, sets_text, subject_text};
 ghost use Rattle.elide_page.specs.Fronts.{title_text_of, titles_text, writes_text};
 
-use crate::job::{Job, Subject, name_of};
+use crate::job::{Job, Subject};
 use crate::notes::write_notes;
 use crate::shows::{Shown, write_shown};
-use elide_program::Form;
+use elide_program::{Form, name_of};
 use elide_setup::Refusal;
 use page_program::write_program;
 use page_run::{put_piece, put_plain};
-use page_text::{NAME, NOTE, TITLE, write_number, write_string};
+use page_text::{NAME, NOTE, TITLE, write_comma, write_number, write_string};
 use std::alloc::AllocError;
 use text_out::{Out, ToVec, WriteFault};
 
@@ -236,9 +236,7 @@ fn write_labels<O: Out>(subject: &Subject<'_>, out: &mut O) -> Result<(), WriteF
     out.put(b",\n\"labels\":[")?;
     let labels = subject.loaded.places.labels();
     for index in 0..labels.len() {
-        if index > 0 {
-            out.put(b",")?;
-        }
+        write_comma(index > 0, out)?;
         out.put(b"[")?;
         write_number(u64::from(labels[index].value()), out)?;
         out.put(b",")?;

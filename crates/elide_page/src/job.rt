@@ -3,8 +3,6 @@
 //! It is put together when the run was surveyed and its window tested, by `command` or `picks`, and handed whole to
 //! `output`. The machine is no part of it: each pass over the run makes its own.
 
-ghost use Rattle.elide_page.specs.Names.{IsNameOf};
-
 use crate::notes::Note;
 use elide_program::Form;
 use page_program::{Loaded, Sources};
@@ -42,14 +40,4 @@ pub struct Job<'a> {
     pub stretch: Stretch<'a>,
     /// What is known of their run.
     pub survey: &'a Survey,
-}
-
-/// The last part of a path.
-pub fn name_of(path: &str) -> &str
-    ensures { IsNameOf path.now result.now }
-{
-    match path.rsplit_once('/') {
-        Some((_folder, name)) => name,
-        None => path,
-    }
 }

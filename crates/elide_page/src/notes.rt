@@ -4,20 +4,20 @@
 //! leaves out those at steps that do not stand in the page. Steps are counted by the run as they are read, and by
 //! the page as they are written.
 
-ghost use Rattle.std.specs.Prelude.{◌≡◌, ◌++◌, ◌∷◌, [], IfOk, MatchResult, OnOk, None, Some, codes, false};
+ghost use Rattle.std.specs.Prelude.{◌≡◌, IfOk, MatchResult, OnOk, None, Some, codes, false};
 ghost use Rattle.std.specs.Prelude.{true};
 ghost use Rattle.std.specs.List.{list_any};
 ghost use Rattle.elide_args.specs.Asked.{texts_of};
 ghost use Rattle.elide_setup.specs.Misuse.{IsMisuse};
 ghost use Rattle.text_out.specs.Writing.{Wrote};
-ghost use Rattle.elide_page.specs.Notes.{AreNotes, comma_if, is_behind, is_outside, note_said, note_text, notes_text};
+ghost use Rattle.elide_page.specs.Notes.{AreNotes, is_behind, is_outside, note_said, note_text, notes_text};
 ghost use Rattle.elide_page.specs.Notes.{piece_text, some_with};
 
-use elide_program::number_of;
+use elide_program::{add, number_of};
 use elide_setup::Refusal;
 use page_run::Window;
-use page_text::{NOTE, write_number, write_string};
-use std::alloc::{AllocError, Global};
+use page_text::{NOTE, write_comma, write_number, write_string};
+use std::alloc::Global;
 use text_out::{Out, WriteFault};
 
 /// A note.
@@ -38,13 +38,6 @@ pub fn notes_of<'a>(alloc: Global, words: &[&'a str]) -> Result<Vec<Note<'a>>, R
         add(&mut notes, note_of(word)?)?;
     }
     Ok(notes)
-}
-
-fn add<'a>(notes: &mut Vec<Note<'a>>, note: Note<'a>) -> Result<(), AllocError>
-    ensures { OnOk result (notes.new.items ≡ notes.old.items ++ note.entry ∷ []) }
-{
-    notes.push(note)?;
-    Ok(())
 }
 
 fn note_of<'a>(word: &'a str) -> Result<Note<'a>, Refusal>
@@ -119,16 +112,6 @@ fn is_outside(note: Note<'_>, window: Window) -> bool
     ensures { result ≡ is_outside window note.entry }
 {
     note.step < window.from || window.to < note.step
-}
-
-/// Writes a comma, where something was written before.
-pub fn write_comma<O: Out>(some: bool, out: &mut O) -> Result<(), WriteFault>
-    ensures { OnOk result (Wrote (O.device out.old) (O.device out.new) (comma_if some)) }
-{
-    if some {
-        out.put(b",")?;
-    }
-    Ok(())
 }
 
 fn write_note<O: Out>(note: Note<'_>, window: Window, out: &mut O) -> Result<(), WriteFault>

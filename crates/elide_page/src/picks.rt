@@ -9,17 +9,17 @@ ghost use Rattle.elide_setup.specs.Faults.{want};
 ghost use Rattle.elide_setup.specs.Refused.{IsNotPaged};
 ghost use Rattle.elide_page.specs.Refused.{IsNoPage};
 
-use crate::command::setup_of;
+use crate::command::Known;
 use crate::commanded::command_of_picks;
-use crate::job::{Job, Subject, name_of};
+use crate::job::{Job, Subject};
 use crate::output::write_page_to;
 use elide_args::MachineOptions;
 use elide_device::Silent;
-use elide_places::Places;
-use elide_program::{Form, Paths, Settings};
-use elide_setup::{Course, Paged, Pages, Refusal, Setup};
+use elide_places::Wants;
+use elide_program::{Paths, Settings, name_of};
+use elide_setup::{Course, Extent, LoadedFile, Paged, Pages, Refusal};
 use page_program::{Loaded, Sources};
-use page_run::{Extent, MOST_STEPS, Stretch, Survey, surveyed};
+use page_run::{MOST_STEPS, Stretch, Window, surveyed};
 use std::alloc::Global;
 use tm_model::Pick;
 
@@ -44,9 +44,22 @@ impl Pages for PageFiles {
         if picks.len() as u64 > MOST_STEPS {
             return Ok(Paged::TooLong);
         }
-        page_of_picks(alloc, machine, text, picks, path, paths)?;
+        let searched = FoundSchedule {
+            machine: &*machine,
+            text: &*text,
+            picks: &*picks,
+        };
+        page_of_picks(alloc, searched, path, paths)?;
         Ok(Paged::AsAsked)
     }
+}
+
+// A schedule that was found, of the program of these options and of this text.
+#[derive(Clone, Copy)]
+struct FoundSchedule<'a> {
+    machine: &'a MachineOptions<'a>,
+    text: &'a [u8],
+    picks: &'a [Pick],
 }
 
 // A program that is to run, and its schedule.
@@ -54,38 +67,36 @@ impl Pages for PageFiles {
 struct Found<'a> {
     machine: &'a MachineOptions<'a>,
     text: &'a [u8],
-    form: Form,
-    setup: &'a Setup,
-    places: &'a Places,
+    file: &'a LoadedFile,
     course: &'a Course,
 }
 
-// Writes the page of a schedule to a file, of the program of the options and of this text.
+// Writes the page of a schedule to a file.
 fn page_of_picks<P: Paths>(
     alloc: Global,
-    machine: &MachineOptions<'_>,
-    text: &[u8],
-    picks: &[Pick],
+    searched: FoundSchedule<'_>,
     path: &str,
     paths: &mut P,
 ) -> Result<(), Refusal>
-    ensures { IfErr result (IsNotPaged text.now machine.now picks.now) }
+    ensures { IfErr result (IsNotPaged searched.entry.text.now searched.entry.machine.now searched.entry.picks.now) }
 {
+    let FoundSchedule {
+        machine,
+        text,
+        picks,
+    } = searched;
     let settings = Settings::read(machine)?;
-    let (setup, places, form) = setup_of(alloc, &settings, text)?;
+    let file = LoadedFile::of_text(alloc, &settings, text, Wants::PLACES)?;
     let course = Course::Listed(Vec::from_slice(alloc, picks)?);
     let found = Found {
         machine,
         text,
-        form,
-        setup: &setup,
-        places: &places,
+        file: &file,
         course: &course,
     };
     let written = page_found(alloc, found, path, paths);
     drop(course);
-    drop(places);
-    drop(setup);
+    drop(file);
     written
 }
 
@@ -95,16 +106,26 @@ fn page_found<P: Paths>(
     path: &str,
     paths: &mut P,
 ) -> Result<(), Refusal>
-    ensures { IfErr result (IsNoPage found.entry.setup.now found.entry.course.now) }
+    ensures { IfErr result (IsNoPage found.entry.file.now.setup found.entry.course.now) }
 {
-    let survey = surveyed(alloc, found.setup, found.course, Extent::ALL, &mut Silent)?;
+    let survey = surveyed(
+        alloc,
+        &found.file.setup,
+        found.course,
+        Extent::ALL,
+        &mut Silent,
+    )?;
     let command = command_listed(alloc, found)?;
     let loaded = Loaded {
         alloc,
-        setup: found.setup,
-        places: found.places,
+        setup: &found.file.setup,
+        places: &found.file.names.places,
     };
-    let written = page_surveyed(loaded, found, &survey, command.as_slice(), path, paths);
+    let known = Known {
+        survey: &survey,
+        command: command.as_slice(),
+    };
+    let written = page_surveyed(loaded, found, known, path, paths);
     drop(command);
     drop(survey);
     written
@@ -122,31 +143,31 @@ fn command_listed(alloc: Global, found: Found<'_>) -> Result<Vec<u8>, Refusal>
 fn page_surveyed<'x, P: Paths>(
     loaded: Loaded<'x>,
     found: Found<'x>,
-    survey: &'x Survey,
-    command: &'x [u8],
+    known: Known<'x>,
     path: &str,
     paths: &mut P,
 ) -> Result<(), Refusal>
-    ensures { IfErr result (IsNoPage found.entry.setup.now found.entry.course.now) }
+    ensures { IfErr result (IsNoPage found.entry.file.now.setup found.entry.course.now) }
 {
-    let window = Extent::ALL.window(survey.made)?;
-    let file = found.machine.file;
-    let sources = Sources::beside(loaded, file, survey.ran.as_slice(), paths)?;
+    let survey = known.survey;
+    let window = Window::of(&Extent::ALL, survey.made)?;
+    let name = found.machine.file;
+    let sources = Sources::beside(loaded, name, survey.ran.as_slice(), paths)?;
     let job = Job {
         subject: Subject {
             loaded,
-            path: file,
+            path: name,
             text: found.text,
-            form: found.form,
+            form: found.file.form,
             sources: &sources,
-            title: name_of(file),
-            command,
+            title: name_of(name),
+            command: known.command,
             sums: found.machine.shows.as_slice(),
             notes: &[],
         },
         stretch: Stretch {
             alloc: loaded.alloc,
-            setup: found.setup,
+            setup: &found.file.setup,
             course: found.course,
             total: survey.made,
             window,

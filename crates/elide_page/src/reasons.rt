@@ -341,7 +341,8 @@ fn words_before(outcome: Outcome) -> Option<usize>
         | Outcome::Idle
         | Outcome::Begun
         | Outcome::Inside
-        | Outcome::Committed => None,
+        | Outcome::Committed
+        | Outcome::Drained => None,
     }
 }
 

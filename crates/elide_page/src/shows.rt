@@ -9,12 +9,11 @@ ghost use Rattle.std.specs.Prelude.{OnOk, false};
 ghost use Rattle.text_out.specs.Writing.{Wrote};
 ghost use Rattle.elide_page.specs.Fronts.{shown_text, shows_text};
 
-use crate::notes::write_comma;
 use elide_places::Places;
 use elide_setup::Setup;
 use page_program::Loaded;
 use page_run::{LineUse, Survey};
-use page_text::{NAME, write_number, write_string};
+use page_text::{NAME, write_comma, write_number, write_string};
 use std::alloc::AllocError;
 use symbols::Symbol;
 use text_out::{Out, WriteFault};

@@ -21,7 +21,7 @@ const NEAR: usize = 6;
 
 /// A row of a listing.
 #[derive(Clone, Copy)]
-pub enum Row<'a> {
+pub enum ListingRow<'a> {
     /// A label.
     Label(Mark<'a>),
     /// What stands at this distance from the first byte of the code.
@@ -42,7 +42,7 @@ enum Sight {
 /// A listing.
 #[derive(Drop)]
 pub struct Listing<'a> {
-    rows: Vec<Row<'a>>,
+    rows: Vec<ListingRow<'a>>,
     // Where each row is seen.
     sights: Vec<Sight>,
     // How many rows the sources take above the listing.
@@ -77,7 +77,7 @@ impl<'a> Listing<'a> {
 fn sights_of(
     loaded: Loaded<'_>,
     sources: &Sources,
-    rows: &[Row<'_>],
+    rows: &[ListingRow<'_>],
     shown: &[bool],
 ) -> Result<Vec<Sight>, AllocError> {
     let mut sights = Vec::new(loaded.alloc);
@@ -94,15 +94,15 @@ fn sights_of(
 
 // Where a row is seen that is shown: one from a line of a source in that, but for a label there, which is none of its
 // lines.
-fn sight_of(loaded: Loaded<'_>, sources: &Sources, row: Row<'_>) -> Sight {
+fn sight_of(loaded: Loaded<'_>, sources: &Sources, row: ListingRow<'_>) -> Sight {
     match row {
-        Row::Code(offset) => {
+        ListingRow::Code(offset) => {
             match sources.row_of(loaded, address_of(loaded.setup, offset)) {
                 Some(place) => Sight::Sourced(place),
                 None => Sight::Listed,
             }
         }
-        Row::Label(mark) => match sources.row_of(loaded, mark.address) {
+        ListingRow::Label(mark) => match sources.row_of(loaded, mark.address) {
             Some(_) => Sight::Hidden,
             None => Sight::Listed,
         },
@@ -110,7 +110,7 @@ fn sight_of(loaded: Loaded<'_>, sources: &Sources, row: Row<'_>) -> Sight {
 }
 
 // The rows of a listing: the instructions one behind the other, and what ran within one.
-fn rows_of<'a>(loaded: Loaded<'a>, ran: &[bool]) -> Result<Vec<Row<'a>>, AllocError> {
+fn rows_of<'a>(loaded: Loaded<'a>, ran: &[bool]) -> Result<Vec<ListingRow<'a>>, AllocError> {
     let setup = loaded.setup;
     let marks = marks_of(loaded.alloc, loaded.places.labels())?;
     let mut rows = Vec::new(loaded.alloc);
@@ -119,7 +119,7 @@ fn rows_of<'a>(loaded: Loaded<'a>, ran: &[bool]) -> Result<Vec<Row<'a>>, AllocEr
         if offset == next || ran[offset] {
             let standing = standing_at(marks.as_slice(), address_of(setup, offset));
             push_labels(&mut rows, standing)?;
-            rows.push(Row::Code(offset))?;
+            rows.push(ListingRow::Code(offset))?;
         }
         if offset == next {
             next = offset.saturating_add(length_at(setup, offset));
@@ -129,15 +129,15 @@ fn rows_of<'a>(loaded: Loaded<'a>, ran: &[bool]) -> Result<Vec<Row<'a>>, AllocEr
 }
 
 // Adds the labels at an address.
-fn push_labels<'a>(rows: &mut Vec<Row<'a>>, marks: &[Mark<'a>]) -> Result<(), AllocError> {
+fn push_labels<'a>(rows: &mut Vec<ListingRow<'a>>, marks: &[Mark<'a>]) -> Result<(), AllocError> {
     for mark in marks {
-        rows.push(Row::Label(*mark))?;
+        rows.push(ListingRow::Label(*mark))?;
     }
     Ok(())
 }
 
 // Shows what ran, and the rows near it.
-fn show_near(rows: &[Row<'_>], ran: &[bool], shown: &mut Vec<bool>) {
+fn show_near(rows: &[ListingRow<'_>], ran: &[bool], shown: &mut Vec<bool>) {
     for index in 0..rows.len() {
         if has_run(rows[index], ran) {
             show_around(shown, index);
@@ -145,10 +145,10 @@ fn show_near(rows: &[Row<'_>], ran: &[bool], shown: &mut Vec<bool>) {
     }
 }
 
-fn has_run(row: Row<'_>, ran: &[bool]) -> bool {
+fn has_run(row: ListingRow<'_>, ran: &[bool]) -> bool {
     match row {
-        Row::Label(_) => false,
-        Row::Code(offset) => match ran.get(offset) {
+        ListingRow::Label(_) => false,
+        ListingRow::Code(offset) => match ran.get(offset) {
             Some(has_run) => *has_run,
             None => false,
         },
@@ -228,13 +228,13 @@ fn write_separator<O: Out>(lines: u64, out: &mut O) -> Result<(), WriteFault> {
 // Writes a row: a label, or an address and what stands there, with the place of its source where that is another one.
 fn write_row<O: Out>(
     loaded: Loaded<'_>,
-    row: Row<'_>,
+    row: ListingRow<'_>,
     last: &mut SymbolText,
     out: &mut O,
 ) -> Result<(), WriteFault> {
     match row {
-        Row::Label(mark) => write_label(loaded.alloc, mark, out),
-        Row::Code(offset) => write_code(loaded, offset, last, out),
+        ListingRow::Label(mark) => write_label(loaded.alloc, mark, out),
+        ListingRow::Code(offset) => write_code(loaded, offset, last, out),
     }
 }
 
@@ -292,7 +292,7 @@ pub fn write_spots<O: Out>(
         let line = cursor.lines;
         cursor = cursor.behind(listing.sights[index]);
         let row = row_seen(listing.sights[index], line);
-        if let (Row::Code(offset), Some(row)) = (listing.rows[index], row) {
+        if let (ListingRow::Code(offset), Some(row)) = (listing.rows[index], row) {
             write_spot(loaded, some, offset, row, out)?;
             some = true;
         }

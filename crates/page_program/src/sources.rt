@@ -7,7 +7,7 @@
 use crate::code::{Loaded, address_of};
 use crate::lines::{line_count, write_lines};
 use elide_program::Paths;
-use page_text::{LINE, write_number, write_string};
+use page_text::{LINE, write_comma, write_number, write_string};
 use std::alloc::{AllocError, Global};
 use text_out::{Out, WriteFault};
 
@@ -162,9 +162,7 @@ fn write_separator<O: Out>(some: bool, out: &mut O) -> Result<(), WriteFault> {
 }
 
 fn write_extent<O: Out>(source: &Source, out: &mut O) -> Result<(), WriteFault> {
-    if source.first > 1 {
-        out.put(b",")?;
-    }
+    write_comma(source.first > 1, out)?;
     out.put(b"[")?;
     write_number(source.first, out)?;
     out.put(b",")?;

@@ -3,7 +3,7 @@
 //! What the data is made of escapes each `<` (`page_text`). Here each piece is looked at once more before it is
 //! written, so that, whatever made it, nothing in the data ends the element that it stands in.
 
-ghost use Rattle.std.specs.Prelude.{◌≡◌, ◌⊎◌, Err, IfErr, OnOk, true};
+ghost use Rattle.std.specs.Prelude.{◌≡◌, ◌⊎◌, Err, IfErr, OnOk};
 ghost use Rattle.std.specs.List.{list_all};
 ghost use Rattle.elide_setup.specs.Refused.{IsUntold, IsUnwritten};
 ghost use Rattle.text_out.specs.Writing.{Wrote};

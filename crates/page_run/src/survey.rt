@@ -2,16 +2,15 @@
 //!
 //! [`surveyed`] makes a machine, tests the schedule's cores and what is shown of memory, and then walks the whole
 //! schedule; no step of it is kept. Which steps stand in the page is known only behind it, so it goes by what is
-//! asked for (`window`). Lines of variables are added afterwards, by [`note_shown`].
+//! asked for ([`Extent`]). Lines of variables are added afterwards, by [`note_shown`].
 
 ghost use Rattle.std.specs.Prelude.{◌≡◌, Err, IfErr, length};
 ghost use Rattle.elide_setup.specs.Faults.{want};
 ghost use Rattle.elide_setup.specs.Refused.{IsNoCore};
 ghost use Rattle.page_run.specs.Refused.{IsNotSurveyed};
 
-use crate::window::Extent;
 use elide_device::Progress;
-use elide_setup::{Course, Refusal, Setup, StepMaker, new_machine, shown_memory};
+use elide_setup::{Course, Extent, Refusal, Setup, StepMaker, new_machine, shown_memory};
 use ia_addr::Access;
 use ia_word::Width;
 use std::alloc::Global;
@@ -19,7 +18,7 @@ use tm_core::Machine;
 use tm_model::{CoreState, Outcome, Pick};
 
 /// How many bytes a line has.
-const LINE: usize = 64;
+pub const LINE: usize = 64;
 
 /// How the steps of a run used a line of memory.
 #[derive(Clone, Copy, PartialEq, Eq, Debug)]
@@ -143,12 +142,12 @@ impl StepMaker for Surveyor {
 impl Survey {
     // Takes in the lines that the next step of a core reaches.
     fn note_reach(&mut self, machine: &Machine, core: u8) {
-        let Ok(reach) = machine.reach(core) else {
+        let Ok(preview) = machine.preview(core) else {
             return;
         };
         let is_inside = is_open(machine, core);
-        note_lines(&mut self.lines, reach.load, is_inside, false);
-        note_lines(&mut self.lines, reach.store, false, is_inside);
+        note_lines(&mut self.lines, preview.reach.load, is_inside, false);
+        note_lines(&mut self.lines, preview.reach.store, false, is_inside);
     }
 
     // Takes in the next instruction of a core.

@@ -11,7 +11,7 @@ use Rattle.text_out.specs.TextLine.{number_text}
 use Rattle.tm_hist.specs.Lines.{interference_word, state_word, stop_word}
 use Rattle.page_steps.specs.Reading.{HasDepth}
 use Rattle.page_steps.specs.Types.{Aborted, AbortedBy, AtStop, Begun, Committed, Condemned, CoreState, Idle, Inside}
-use Rattle.page_steps.specs.Types.{Interference}
+use Rattle.page_steps.specs.Types.{Drained, Interference}
 use Rattle.page_steps.specs.Types.{Loaded, Mid, Open, Outcome, Plain, Running, Stop, Stopped}
 use Rattle.tm_model.specs.declared.outcome.Interference.TheVariants.{Eviction, Interrupt, Snoop}
 use Rattle.tm_rule.specs.declared.kinds.Stop.TheVariants.{Breakpoint, CodeStore, Divide, Fetch, Halt, NotInSubset}
@@ -136,3 +136,4 @@ letter_stays Inside = refl
 letter_stays Committed = refl
 letter_stays (Aborted status) = refl
 letter_stays (AbortedBy by status) = refl
+letter_stays Drained = refl

@@ -24,8 +24,9 @@ use Rattle.page_steps.specs.Reading.{numbers_of, private_bytes, stored_of}
 use Rattle.page_steps.specs.Registers.{changed_numbers}
 use Rattle.page_steps.specs.Steps.{step_text}
 use Rattle.page_steps.specs.Stored.{stored_text}
-use Rattle.page_steps.specs.Types.{Aborted, AbortedBy, Access, B, Begun, Committed, CoreState, D, Hit, Idle, Inside}
-use Rattle.page_steps.specs.Types.{Kind, Loaded, Outcome, PageDelta, Plain, Read, Stopped, StoredByte, Width, Write}
+use Rattle.page_steps.specs.Types.{Aborted, AbortedBy, Access, B, Begun, Committed, CoreState, D, Drained, Hit, Idle}
+use Rattle.page_steps.specs.Types.{Inside, Kind, Loaded, Outcome, PageDelta, Plain, Read, Stopped, StoredByte, Width}
+use Rattle.page_steps.specs.Types.{Write}
 use Rattle.page_steps.specs.Words.{letter_of}
 use Rattle.page_steps.proofs.Escaping.{Stays, event_stays, letter_stays, state_stays}
 use Rattle.page_steps.proofs.Objects.{object_numbers, object_prints, object_shallow}
@@ -82,6 +83,7 @@ stored_apart some Inside bytes others = refl
 stored_apart some Committed bytes others = refl
 stored_apart some (Aborted status) bytes others = refl
 stored_apart some (AbortedBy by status) bytes others = refl
+stored_apart some Drained bytes others = refl
 
 texts_are : (delta : PageDelta) (before : CoreState)
     → members_text false (members_of delta before) ≡ members_text false (texts_of delta before)
@@ -153,6 +155,7 @@ event_offer Begun = refl
 event_offer Inside = refl
 event_offer Committed = refl
 event_offer (Aborted status) = refl
+event_offer Drained = refl
 event_offer (AbortedBy by status) = (
   34 ∷ (interference_word by ++ 34 ∷ []),
   refl,
@@ -235,6 +238,7 @@ load_fits Begun load h = tt
 load_fits Committed load h = tt
 load_fits (Aborted status) load h = tt
 load_fits (AbortedBy by status) load h = tt
+load_fits Drained load h = tt
 
 private_fits : (inside : Bool) (bytes : List StoredByte) → AllByRecursion IsByteAt bytes
     → AllByRecursion IsByteAt (if inside then bytes else [])

@@ -4,10 +4,11 @@ use Rattle.std.specs.Prelude.{ℕ, ◌+◌, nat_eq, Bool, true, false, List, [],
 use Rattle.std.specs.Prelude.{if◌then◌else◌}
 use Rattle.std.specs.Cmp.Lexicographic.{pointwise}
 use Rattle.tm_hist.specs.Lines.{interference_word, state_word}
+use Rattle.page_text.specs.Commas.{comma_if}
 use Rattle.page_steps.specs.Numbers.{numbers_text}
 use Rattle.page_steps.specs.Stored.{stored_text}
-use Rattle.page_steps.specs.Types.{Aborted, AbortedBy, Access, B, Begun, Committed, CoreState, D, Hit, Idle, Inside}
-use Rattle.page_steps.specs.Types.{Kind}
+use Rattle.page_steps.specs.Types.{Aborted, AbortedBy, Access, B, Begun, Committed, CoreState, D, Drained, Hit, Idle}
+use Rattle.page_steps.specs.Types.{Inside, Kind}
 use Rattle.page_steps.specs.Types.{Loaded, Outcome, PageDelta, Plain, Read, Stopped, StoredByte, Width, Write}
 use Rattle.page_steps.specs.Words.{quoted_state}
 
@@ -31,7 +32,7 @@ abbrev pub access_member : Option Access → List ℕ
 access_member None = []
 access_member (Some access) = codes "\"l\":" ++ numbers_text (access.addr ∷ bytes_of_width access.width ∷ [])
 
--- what a step loaded: one that stopped, began, ended or was idle loaded nothing
+-- what a step loaded: one that stopped, began, ended, drained or was idle loaded nothing
 abbrev pub load_made : Outcome → Option Access → Option Access
 load_made Plain load = load
 load_made Loaded load = load
@@ -42,6 +43,7 @@ load_made Begun load = None
 load_made Committed load = None
 load_made (Aborted status) load = None
 load_made (AbortedBy by status) load = None
+load_made Drained load = None
 
 -- inside, bytes are stored privately
 abbrev pub store_name : Outcome → List ℕ
@@ -54,6 +56,7 @@ store_name Begun = codes "\"m\":"
 store_name Committed = codes "\"m\":"
 store_name (Aborted status) = codes "\"m\":"
 store_name (AbortedBy by status) = codes "\"m\":"
+store_name Drained = codes "\"m\":"
 
 abbrev pub kind_number : Kind → ℕ
 kind_number Read = 0
@@ -65,8 +68,7 @@ abbrev pub hits_from : Bool → ℕ → List (Option Hit) → List ℕ
 hits_from some core [] = []
 hits_from some core (None ∷ hits) = hits_from some (core + 1) hits
 hits_from some core (Some hit ∷ hits) =
-    (if some then codes "," else [])
-    ++ (numbers_text (core ∷ hit.line ∷ kind_number hit.kind ∷ []) ++ hits_from true (core + 1) hits)
+    comma_if some ++ (numbers_text (core ∷ hit.line ∷ kind_number hit.kind ∷ []) ++ hits_from true (core + 1) hits)
 
 abbrev pub hits_member : List (Option Hit) → List ℕ
 hits_member hits = named (codes "\"d\":[") (λ text. text ++ codes "]") (hits_from false 0 hits)
@@ -81,6 +83,7 @@ event_member Begun = []
 event_member Inside = []
 event_member Committed = []
 event_member (Aborted status) = []
+event_member Drained = []
 
 abbrev pub members_of : PageDelta → CoreState → List (List ℕ)
 members_of delta before =

@@ -14,7 +14,7 @@ use Rattle.tm_hist.specs.Lines.{interference_word, state_word}
 use Rattle.page_steps.specs.Members.{bytes_of_width, kind_number, load_made}
 use Rattle.page_steps.specs.Registers.{changed_numbers}
 use Rattle.page_steps.specs.Types.{Aborted, AbortedBy, Access, Begun, Committed, CoreState, Hit, Idle, Inside, Loaded}
-use Rattle.page_steps.specs.Types.{Open, Outcome}
+use Rattle.page_steps.specs.Types.{Drained, Open, Outcome}
 use Rattle.page_steps.specs.Types.{AtStop, Condemned, Mid, PageDelta, Plain, Running, Stopped, StoredByte}
 use Rattle.page_steps.specs.Words.{letter_of}
 
@@ -88,6 +88,7 @@ is_inside Begun = false
 is_inside Committed = false
 is_inside (Aborted status) = false
 is_inside (AbortedBy by status) = false
+is_inside Drained = false
 
 abbrev pub private_bytes : Outcome → List StoredByte → List StoredByte
 private_bytes outcome bytes = if is_inside outcome then bytes else []
@@ -112,6 +113,7 @@ event_word Begun = None
 event_word Inside = None
 event_word Committed = None
 event_word (Aborted status) = None
+event_word Drained = None
 
 -- a text is JSON, and what is found in it is this delta, of a step before which its core did this
 pub record ReadsAs (delta : PageDelta) (before : CoreState) (text : List ℕ) : Type 0 where

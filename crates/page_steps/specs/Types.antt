@@ -6,7 +6,7 @@ pub use Rattle.tm_page.specs.declared.delta.PageDelta.{PageDelta}
 pub use Rattle.tm_page.specs.declared.delta.StoredByte.{StoredByte}
 pub use Rattle.tm_page.specs.Types.{Hit, Regs}
 pub use Rattle.tm_page.specs.Types.{CoreState, Interference, Outcome, Aborted, AbortedBy, Begun, Committed, Idle}
-pub use Rattle.tm_page.specs.Types.{Inside}
+pub use Rattle.tm_page.specs.Types.{Drained, Inside}
 pub use Rattle.tm_page.specs.Types.{Loaded, Plain, Stopped}
 pub use Rattle.tm_page.specs.Types.{AtStop, Condemned, Mid, Open, Running}
 pub use Rattle.tm_rule.specs.declared.kinds.Stop.{Stop}

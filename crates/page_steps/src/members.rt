@@ -4,7 +4,7 @@
 //! that a step with none has no object either. A load is left out where the outcome says that it was not made. The
 //! registers stand before the object (`step`).
 
-ghost use Rattle.std.specs.Prelude.{◌≡◌, ◌+◌, ◌≤◌, [], IfOk, OnOk, codes, if◌then◌else◌, false, is_some, length};
+ghost use Rattle.std.specs.Prelude.{◌≡◌, ◌+◌, ◌≤◌, [], IfOk, OnOk, false, is_some, length};
 ghost use Rattle.std.specs.Prelude.{nat_eq};
 ghost use Rattle.std.specs.Cmp.Lexicographic.{pointwise};
 ghost use Rattle.std.specs.List.{list_any};
@@ -23,6 +23,7 @@ use crate::stored::write_stored;
 use crate::words::write_state;
 use ia_addr::Access;
 use ia_word::Width;
+use page_text::write_comma;
 use text_out::text_line::TextLine;
 use text_out::{Out, WriteFault};
 use tm_hist::{interference_text, push_state};
@@ -119,7 +120,7 @@ fn put_lines<O: Out>(
     Ok(true)
 }
 
-// What a step loaded: one that stopped, began, ended or was idle loaded nothing.
+// What a step loaded: one that stopped, began, ended, drained or was idle loaded nothing.
 fn load_made(outcome: Outcome, load: Option<Access>) -> Option<Access>
     ensures { result ≡ load_made outcome load }
 {
@@ -130,7 +131,8 @@ fn load_made(outcome: Outcome, load: Option<Access>) -> Option<Access>
         | Outcome::Begun
         | Outcome::Committed
         | Outcome::Aborted(_)
-        | Outcome::AbortedBy(_, _) => None,
+        | Outcome::AbortedBy(_, _)
+        | Outcome::Drained => None,
     }
 }
 
@@ -188,7 +190,8 @@ fn store_name(outcome: Outcome) -> &'static [u8]
         | Outcome::Begun
         | Outcome::Committed
         | Outcome::Aborted(_)
-        | Outcome::AbortedBy(_, _) => b"\"m\":",
+        | Outcome::AbortedBy(_, _)
+        | Outcome::Drained => b"\"m\":",
     }
 }
 
@@ -229,18 +232,9 @@ fn put_hits_from<O: Out>(
     let Some(hit) = first else {
         return put_hits_from(some, core + 1, rest, out);
     };
-    put_comma(some, out)?;
+    write_comma(some, out)?;
     write_numbers(&[core, hit.line, kind_number(hit.kind)], out)?;
     put_hits_from(true, core + 1, rest, out)
-}
-
-fn put_comma<O: Out>(some: bool, out: &mut O) -> Result<(), WriteFault>
-    ensures { OnOk result (Wrote (O.device out.old) (O.device out.new) (if some then codes "," else [])) }
-{
-    if some {
-        out.put(b",")?;
-    }
-    Ok(())
 }
 
 fn kind_number(kind: Kind) -> u32

@@ -2,7 +2,7 @@
 //!
 //! Nothing is put around or between lists here. Bytes with their addresses have a shorter form (`stored`).
 
-ghost use Rattle.std.specs.Prelude.{◌++◌, ◌∷◌, OnOk, decimal};
+ghost use Rattle.std.specs.Prelude.{OnOk};
 ghost use Rattle.std.specs.List.{flat_map};
 ghost use Rattle.text_out.specs.Writing.{Wrote};
 ghost use Rattle.page_steps.specs.Numbers.{behind_comma, numbers_inner, numbers_text};

@@ -10,6 +10,7 @@ ghost use Rattle.tm_hist.specs.Lines.{flag_sum};
 
 use arrayvec::ArrayVec;
 use ia_regs::{Flags, Regs};
+use tm_hist::flag_bits;
 use tm_page::Changes;
 
 /// The values of the ten registers.
@@ -32,7 +33,7 @@ pub fn register_values(regs: &Regs) -> RegisterRow
     row.push(regs.gpr[6]);
     row.push(regs.gpr[7]);
     row.push(regs.eip);
-    row.push(flags_number(regs.flags));
+    row.push(u32::from(flag_bits(regs.flags)));
     row
 }
 
@@ -71,23 +72,7 @@ fn flags_if(flags: Option<Flags>) -> Option<u32>
     ensures { result ≡ option_map flag_sum flags }
 {
     match flags {
-        Some(flags) => Some(flags_number(flags)),
+        Some(flags) => Some(u32::from(flag_bits(flags))),
         None => None,
     }
-}
-
-// The flags' bits, each at its place in EFLAGS, and no other.
-fn flags_number(flags: Flags) -> u32
-    ensures { result ≡ flag_sum flags }
-{
-    use bitflags::Flags as _;
-    u32::from(Flags::of(
-        flags.carry(),
-        flags.parity(),
-        flags.adjust(),
-        flags.zero(),
-        flags.sign(),
-        flags.overflow(),
-    )
-    .bits())
 }

@@ -27,6 +27,7 @@ pub fn kind_letter(outcome: Outcome) -> &'static [u8]
         Outcome::Committed => b"c",
         Outcome::Aborted(_) => b"a",
         Outcome::AbortedBy(_, _) => b"e",
+        Outcome::Drained => b"d",
     }
 }
 

@@ -27,7 +27,8 @@ use Rattle.tm_page.specs.Applied.{Page, PageCore, applied, hit_on, is_listed, ot
 use Rattle.tm_model.specs.declared.explain.Reach.{Reach}
 use Rattle.tm_page.specs.Difference.{IsDifference, IsReachSaid, IsTold}
 use Rattle.tm_page.specs.Shows.{IsAddress, Shows, private_byte}
-use Rattle.tm_page.specs.Types.{Aborted, AbortedBy, Begun, Committed, Hit, Idle, Inside, Loaded, Plain, Stopped}
+use Rattle.tm_page.specs.Types.{Aborted, AbortedBy, Begun, Committed, Drained, Hit, Idle, Inside, Loaded, Plain}
+use Rattle.tm_page.specs.Types.{Stopped}
 use Rattle.tm_page.specs.declared.delta.PageDelta.{PageDelta}
 use Rattle.tm_page.specs.declared.delta.StoredByte.{StoredByte}
 use Rattle.page_telling.specs.Kept.{AreAllKept, IsKeptBehind, is_kept, is_stored}
@@ -77,14 +78,18 @@ takes_step before after pick outcome h state doomed stands =
 -- a step that was made, told of a machine of which this is known
 pub told_of : (before after : Machine) (pick : Pick) (outcome : Outcome) (reach : Reach) (row : List ℕ)
     (old : List KeptByte) (delta : PageDelta) →
+    before.store_buffer ≡ 0 → before.pending ≡ [] →
     IsMachineStep before pick outcome after → pick.core < length before.views → IsReachSaid before pick.core reach →
     ((address : ℕ) → is_listed row address ≡ is_kept old pick.core address) →
     IsDifference before after pick.core outcome reach row delta →
     (state : State) (doomed : ℕ → Option ℕ) → StandsFor before state doomed → AreAllKept before old
     → IsTold before after pick.core outcome delta
-told_of before after pick outcome reach row old delta made within said listed difference state doomed stands all =
+told_of before after pick outcome reach row old delta most left made within said listed difference state doomed stands
+    all =
     record {
       within = within;
+      most = most;
+      none = left;
       same = made.same;
       event = pick.event;
       state = state;
@@ -164,6 +169,7 @@ own_none Idle delta view core address old new kept none was = refl
 own_none Committed delta view core address old new kept none was = refl
 own_none (Aborted status) delta view core address old new kept none was = refl
 own_none (AbortedBy by status) delta view core address old new kept none was = refl
+own_none Drained delta view core address old new kept none was = was (sym (kept core address) ∙ none)
 
 -- of another core
 other_none : (hit : Option Hit) (view : View) (address : ℕ) → private_byte view address ≡ None →
@@ -190,6 +196,7 @@ others_stay Idle stored core other address old new kept apart = kept other addre
 others_stay Committed stored core other address old new kept apart = kept other address apart
 others_stay (Aborted status) stored core other address old new kept apart = kept other address apart
 others_stay (AbortedBy by status) stored core other address old new kept apart = kept other address apart
+others_stay Drained stored core other address old new kept apart = kept other address
 
 -- of each core
 all_none : (delta : PageDelta) (view : View) (core number address : ℕ) (outcome : Outcome) (old new : List KeptByte) →

@@ -3,7 +3,8 @@ use Rattle.std.specs.Prelude.{◌≡◌, ℕ, ◌<◌, ◌&&◌, ◌||◌, Bool,
 use Rattle.std.specs.List.{list_any}
 use Rattle.tm_core.specs.Theorem.{ShownMachine as Machine, view_at}
 use Rattle.tm_page.specs.Shows.{IsAddress, private_byte}
-use Rattle.tm_page.specs.Types.{Aborted, AbortedBy, Begun, Committed, Idle, Inside, Loaded, Outcome, Plain, Stopped}
+use Rattle.tm_page.specs.Types.{Aborted, AbortedBy, Begun, Committed, Drained, Idle, Inside, Loaded, Outcome, Plain}
+use Rattle.tm_page.specs.Types.{Stopped}
 use Rattle.tm_page.specs.declared.delta.StoredByte.{StoredByte}
 use Rattle.page_telling.specs.declared.kept.KeptByte.{KeptByte}
 
@@ -21,7 +22,8 @@ abbrev pub OthersStay : ℕ → List KeptByte → List KeptByte → Type 0
 OthersStay core old new =
     (other address : ℕ) → (other ≡ core → ⊥) → is_kept new other address ≡ is_kept old other address
 
--- a step of a core inside of a transaction keeps what it stored too; behind any other the core keeps none
+-- a step of a core inside of a transaction keeps what it stored too, and a drain all that was kept; behind any other
+-- the core keeps none
 abbrev pub IsKeptBehind : Outcome → ℕ → List StoredByte → List KeptByte → List KeptByte → Type 0
 IsKeptBehind Inside core stored old new =
     (other address : ℕ) → is_kept new other address
@@ -34,6 +36,7 @@ IsKeptBehind Begun core stored old new = OthersStay core old new
 IsKeptBehind Committed core stored old new = OthersStay core old new
 IsKeptBehind (Aborted status) core stored old new = OthersStay core old new
 IsKeptBehind (AbortedBy by status) core stored old new = OthersStay core old new
+IsKeptBehind Drained core stored old new = (other address : ℕ) → is_kept new other address ≡ is_kept old other address
 
 -- each byte that a transaction of the machine keeps is among these
 abbrev pub AreAllKept : Machine → List KeptByte → Type 0

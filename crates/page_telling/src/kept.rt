@@ -46,8 +46,8 @@ impl Kept {
         addresses_of(alloc, self.bytes.as_slice(), core)
     }
 
-    /// Takes in a step of a core, with the bytes that it stored: those of a step inside are kept, and behind any other
-    /// step none of its core's is.
+    /// Takes in a step of a core, with the bytes that it stored: those of a step inside are kept, a drain leaves all
+    /// that are, and behind any other step none of its core's is.
     pub fn take(
         &mut self,
         alloc: Global,
@@ -59,6 +59,7 @@ impl Kept {
     {
         match outcome {
             Outcome::Inside => keep_all(&mut self.bytes, core, stored),
+            Outcome::Drained => Ok(()),
             Outcome::Plain
             | Outcome::Loaded
             | Outcome::Stopped(_)

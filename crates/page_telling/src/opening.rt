@@ -10,9 +10,9 @@ ghost use Rattle.page_run.specs.Plain.{WrotePlain};
 
 use crate::kept::Kept;
 use elide_setup::{Fault, Refusal};
-use page_run::{LineUse, put_piece};
+use page_run::{LINE, LineUse, put_piece};
 use page_steps::{register_values, write_numbers, write_state, write_stored};
-use page_text::{write_hex, write_number};
+use page_text::{write_comma, write_hex, write_number};
 use std::alloc::{AllocError, Global};
 use text_out::page::{Page, push_hex};
 use text_out::{Out, ToVec, WriteFault};
@@ -21,9 +21,6 @@ use tm_model::CoreState;
 use tm_page::StoredByte;
 use tm_sets::Kind;
 use tm_why::{Asked, Watch};
-
-/// How many bytes a line has.
-const LINE: usize = 64;
 
 /// What is known of a machine's open transactions beside what it shows.
 #[derive(Drop)]
@@ -74,7 +71,7 @@ fn write_opening<O: Out>(
 
 fn write_registers<O: Out>(machine: &Machine, out: &mut O) -> Result<(), WriteFault> {
     for core in 0..machine.cores() {
-        put_comma(core > 0, out)?;
+        write_comma(core > 0, out)?;
         if let Ok(regs) = machine.regs(core) {
             write_numbers(register_values(&regs).as_slice(), out)?;
         }
@@ -84,17 +81,10 @@ fn write_registers<O: Out>(machine: &Machine, out: &mut O) -> Result<(), WriteFa
 
 fn write_states<O: Out>(machine: &Machine, out: &mut O) -> Result<(), WriteFault> {
     for core in 0..machine.cores() {
-        put_comma(core > 0, out)?;
+        write_comma(core > 0, out)?;
         if let Ok(state) = machine.state(core) {
             write_state(state, out)?;
         }
-    }
-    Ok(())
-}
-
-fn put_comma<O: Out>(some: bool, out: &mut O) -> Result<(), WriteFault> {
-    if some {
-        out.put(b",")?;
     }
     Ok(())
 }
@@ -111,7 +101,7 @@ fn write_transactions<O: Out>(
     let mut some = false;
     for core in 0..machine.cores() {
         if is_in_transaction(machine, core) {
-            put_comma(some, out)?;
+            write_comma(some, out)?;
             some = true;
             write_transaction(alloc, machine, behind, core, out)?;
         }
@@ -258,7 +248,7 @@ fn write_bytes<O: Out>(
     for index in 0..lines.len() {
         let bytes = line_at(memory, index);
         if lines[index].touched && bytes.iter().any(|byte| *byte != 0) {
-            put_comma(some, out)?;
+            write_comma(some, out)?;
             some = true;
             write_line(index, bytes, out)?;
         }

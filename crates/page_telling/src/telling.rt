@@ -189,7 +189,7 @@ impl<O: Out> Telling<O> {
 
 // A step that was made.
 #[derive(Drop)]
-struct Told {
+struct TakenStep {
     outcome: Outcome,
     // What its core did before it.
     before: CoreState,
@@ -202,12 +202,13 @@ fn take_step(
     machine: &mut Machine,
     behind: &mut Behind,
     pick: Pick,
-) -> Result<Told, Refusal>
+) -> Result<TakenStep, Refusal>
     ensures made { IfOk result (λ told. IsMade machine.old behind.old.kept.bytes.items
         (record { pick = pick; outcome = told.outcome; before = told.before; delta = told.delta })
         machine.new behind.new.kept.bytes.items) }
     ensures refused { IfErr result (λ why. IsNoCore machine.old pick why ⊎ IsAnyWant why) }
 {
+    machine.nothing_pending();
     let state = state_of(machine, pick)?;
     let before = before_of(alloc, machine, pick.core)?;
     let outcome = machine.make_step(pick)?;
@@ -217,7 +218,7 @@ fn take_step(
     behind
         .kept
         .take(alloc, pick.core, outcome, delta.stored.as_slice())?;
-    Ok(Told {
+    Ok(TakenStep {
         outcome,
         before: state,
         delta,
@@ -278,7 +279,7 @@ struct Standing<'a> {
 }
 
 // Writes what stands in a page of a step: its line, or what opens the page behind it, or nothing.
-fn put_told<O: Out>(standing: Standing<'_>, told: &Told, out: &mut O) -> Result<(), Refusal>
+fn put_told<O: Out>(standing: Standing<'_>, told: &TakenStep, out: &mut O) -> Result<(), Refusal>
     ensures piece { OnOk result ((pick : Pick) → IsPiece standing.entry.window standing.entry.made
         (record { pick = pick; outcome = told.now.outcome; before = told.now.before; delta = told.now.delta })
         (O.device out.old) (O.device out.new)) }

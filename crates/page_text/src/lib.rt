@@ -8,12 +8,14 @@
 //! is what is shown. Takes no memory. Stands on `text_out` and `bstr`.
 #![tactic(auto)]
 
+mod comma;
 mod escape;
 mod hidden;
 mod number;
 mod shown;
 mod text;
 
+pub use comma::write_comma;
 pub use number::{write_hex, write_number};
 pub use text::{write_string, write_title};
 

@@ -1,4 +1,5 @@
-//! Numbers, and bytes in hex.
+//! Numbers in decimal digits, and bytes in hex, as a page's data has them. Both are written piece by piece, with no
+//! text of their own in memory.
 
 ghost use Rattle.std.specs.Prelude.{decimal};
 ghost use Rattle.text_out.specs.Writing.{Writes};

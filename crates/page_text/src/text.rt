@@ -1,4 +1,5 @@
-//! Texts from outside.
+//! Texts from outside, such as a file's name, on a page: as a string of its data, or between tags. Each is cut to a
+//! length and escaped, so that it can neither end the string nor begin a tag.
 
 ghost use Rattle.std.specs.Prelude.{◌≡◌, ◌≤◌, ◌++◌, Some, encode_utf8_all, drop, length, true};
 ghost use Rattle.std.specs.List.{list_all};

@@ -12,24 +12,23 @@ returns-in_err-settings g c =
     let p = err_from_is_err_and c.from_residual.result c.from_residual.ensures.1 in
     rw (p.1, p.2) (IsNotPaged.misread c.in_err-settings.field-0.0 c.in_err-settings.ensures.misread refl)
 
-pub returns-in_err-setup : goal.returns-in_err-setup
-returns-in_err-setup g c =
-    let p = err_from_is_err_and c.from_residual-in_err-setup.result c.from_residual-in_err-setup.ensures.1 in
+pub returns-in_err-file : goal.returns-in_err-file
+returns-in_err-file g c =
+    let p = err_from_is_err_and c.from_residual-in_err-file.result c.from_residual-in_err-file.ensures.1 in
     rw (p.1, p.2)
-    (no_program_of c.args.text.now c.args.machine.now c.args.picks.now c.in_ok-settings.settings
-    c.in_err-setup.field-0.0 c.in_ok-settings.ensures.settings
-    c.in_err-setup.ensures.none)
+    (no_program_of c.args.searched.text.now c.args.searched.machine.now c.args.searched.picks.now
+    c.in_ok-settings.settings c.in_err-file.field-0.0 c.in_ok-settings.ensures.settings c.in_err-file.ensures.none)
 
 pub returns : goal.returns
 returns g c =
-    let text = c.args.text.now in
-    let options = c.args.machine.now in
-    let picks = c.args.picks.now in
-    let read = c.in_ok-setup.ensures.setup in
+    let text = c.args.searched.text.now in
+    let options = c.args.searched.machine.now in
+    let picks = c.args.searched.picks.now in
+    let loaded = c.in_ok-file.ensures.loaded in
     let asked : Course = Listed c.in_ok-from_slice.field-0 in
-    IfErr-weaker c.page_found-written.result (IsNoPage c.in_ok-setup.setup asked) (IsNotPaged text options picks)
+    IfErr-weaker c.page_found-written.result (IsNoPage c.in_ok-file.file.setup asked) (IsNotPaged text options picks)
     (λ why none.
-    not_paged_of text options picks c.in_ok-settings.settings read.0 c.in_ok-setup.setup asked why
-    c.in_ok-settings.ensures.settings read.1 read.2
+    not_paged_of text options picks c.in_ok-settings.settings loaded.file c.in_ok-file.file.setup asked why
+    c.in_ok-settings.ensures.settings loaded.read loaded.setup
     c.in_ok-from_slice.ensures.items none)
     c.page_found-written.ensures

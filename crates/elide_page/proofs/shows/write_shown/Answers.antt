@@ -3,8 +3,8 @@ use Rattle.std.proofs.lemmas.List.{take_more}
 use Rattle.std.specs.Prelude.{slice_index_or}
 use Rattle.text_out.proofs.Writing.{wrote_then}
 use Rattle.text_out.specs.Writing.{Wrote}
+use Rattle.page_text.specs.Commas.{comma_if}
 use Rattle.elide_page.specs.Fronts.{shown_text, shows_text}
-use Rattle.elide_page.specs.Notes.{comma_if}
 use Rattle.elide_page.specs.declared.shows.Shown.{Shown}
 use Rattle.elide_page.proofs.Listing.{shows_and, some_shown, some_then}
 use Rattle.elide_page.proofs.shows.write_shown.Goals as goal
