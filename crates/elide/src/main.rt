@@ -11,6 +11,7 @@ mod progress;
 
 use ahead::ReadAhead;
 use arguments::{USUAL_ROOM, Words, read_words};
+use elide_command::Streams;
 use elide_device::{Surroundings, Terminals};
 use elide_program::Again;
 use elide_test::SystemPaths;
@@ -49,15 +50,7 @@ fn main(rt: HostRuntime) -> ExitCode {
     };
     let told = ToWriter::new(Again::new(&stderr));
     let mut progress = ProgressLine::new(&rt, told, terminals.errors);
-    let status = command(
-        &rt,
-        words.as_slice(),
-        &mut paths,
-        &mut input,
-        &mut out,
-        &mut err,
-        surroundings,
-        &mut progress,
-    );
+    let mut streams = Streams::new(&mut paths, &mut input, &mut out, &mut err, &mut progress);
+    let status = command(&rt, words.as_slice(), &mut streams, surroundings);
     ExitCode::from(status)
 }

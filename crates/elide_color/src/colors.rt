@@ -1,4 +1,5 @@
-//! Whether text is painted.
+//! Whether text is painted, decided once for each device before anything is written: by `--color`, by whether it is a
+//! terminal, and by what the environment asks.
 
 ghost use Rattle.std.specs.Prelude.{◌≡◌};
 ghost use Rattle.std.specs.Option.{option_copied};

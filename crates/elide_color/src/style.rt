@@ -1,4 +1,4 @@
-//! How a text is painted.
+//! How a text is painted: by what it is, not by the colour, and with the terminal's own eight colours.
 
 ghost use Rattle.std.specs.Prelude.{◌≡◌, ◌+◌, ◌≤◌, ◌++◌, length};
 ghost use Rattle.arrayvec.specs.ArrayVec.{array_vec_len};

@@ -53,10 +53,8 @@ impl Answer {
 pub fn done<T: Drop>(end: Result<T, Refusal>) -> Result<Answer, Refusal>
     ensures { IsAnswered (λ _. Answer.Done) end result }
 {
-    match end {
-        Ok(_) => Ok(Answer::Done),
-        Err(refusal) => Err(refusal),
-    }
+    end?;
+    Ok(Answer::Done)
 }
 
 /// What a run came to, which gives its device back: one that goes on at its limit, where its end was asked for, fails.

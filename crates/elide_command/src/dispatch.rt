@@ -8,7 +8,8 @@ ghost use Rattle.std.specs.Prelude.{◌≤◌};
 
 use crate::answer::Answer;
 use crate::look::Look;
-use crate::obeying::obey;
+use crate::obeying::Job;
+use crate::streams::Streams;
 use crate::telling::tell;
 use elide_advice::advise;
 use elide_args::{CommandLine, NotASubcommand, Subcommand, command_line_of};
@@ -41,18 +42,14 @@ pub fn command<
 >(
     rt: &R,
     words: &[&str],
-    paths: &mut P,
-    input: &mut I,
-    out: &mut O,
-    err: &mut E,
+    streams: &mut Streams<'_, P, I, O, E, G>,
     surroundings: Surroundings,
-    progress: &mut G,
 ) -> u8
     ensures { result ≤ 3 }
 {
-    match command_line_of(rt.alloc(), words, out, err) {
-        Ok(line) => carry_out(rt, &line, paths, input, out, err, surroundings, progress),
-        Err(end) => end_early(end, surroundings, err),
+    match command_line_of(rt.alloc(), words, &mut *streams.out, &mut *streams.err) {
+        Ok(line) => carry_out(rt, &line, streams, surroundings),
+        Err(end) => end_early(end, surroundings, &mut *streams.err),
     }
 }
 
@@ -80,25 +77,21 @@ pub fn carry_out<
 >(
     rt: &R,
     line: &CommandLine<'_>,
-    paths: &mut P,
-    input: &mut I,
-    out: &mut O,
-    err: &mut E,
+    streams: &mut Streams<'_, P, I, O, E, G>,
     surroundings: Surroundings,
-    progress: &mut G,
 ) -> u8
     ensures { result ≤ 3 }
 {
     let look = Look::new(line, surroundings);
-    match obey_warned(rt, &line.subcommand, paths, input, out, err, look, progress) {
+    match obey_warned(rt, &line.subcommand, streams, look) {
         Ok(answer) => {
             if answer.is_unpaged() {
                 let refusal = Refusal::Fault(Fault::PageTooLong);
-                tell_refusal(rt.alloc(), line, refusal, paths, look, err);
+                tell_refusal(rt.alloc(), line, refusal, streams, look);
             }
             answer.status()
         }
-        Err(refusal) => tell_refusal(rt.alloc(), line, refusal, paths, look, err),
+        Err(refusal) => tell_refusal(rt.alloc(), line, refusal, streams, look),
     }
 }
 
@@ -108,41 +101,34 @@ pub fn misused(line: &CommandLine<'_>) -> Option<&'static str> {
 }
 
 /// Tells why a command line was refused, where it is asked for with what is meant, and gives the exit status.
-pub fn refuse<P: Paths, E: Out>(
+pub fn refuse<P: Paths, I, O, E: Out, G>(
     alloc: Global,
     line: &CommandLine<'_>,
     refusal: Refusal,
-    paths: &mut P,
+    streams: &mut Streams<'_, P, I, O, E, G>,
     surroundings: Surroundings,
-    err: &mut E,
 ) -> u8
     ensures { result ≤ 2 }
 {
-    tell_refusal(
-        alloc,
-        line,
-        refusal,
-        paths,
-        Look::new(line, surroundings),
-        err,
-    )
+    tell_refusal(alloc, line, refusal, streams, Look::new(line, surroundings))
 }
 
 // Tells why a command line was refused, at a terminal with what is meant, and gives the exit status.
-fn tell_refusal<P: Paths, E: Out>(
+fn tell_refusal<P: Paths, I, O, E: Out, G>(
     alloc: Global,
     line: &CommandLine<'_>,
     refusal: Refusal,
-    paths: &mut P,
+    streams: &mut Streams<'_, P, I, O, E, G>,
     look: Look,
-    err: &mut E,
 ) -> u8
     ensures { result ≤ 2 }
 {
     let is_painted = look.colors.errors;
-    let status = tell(refusal, is_painted, err);
+    let status = tell(refusal, is_painted, &mut *streams.err);
     // Behind the line, which takes no memory and so stands in any case.
     if look.tells_words {
+        let paths = &mut *streams.paths;
+        let err = &mut *streams.err;
         advise(alloc, &line.subcommand, refusal, paths, is_painted, err);
     }
     status
@@ -167,16 +153,19 @@ fn obey_warned<
 >(
     rt: &R,
     subcommand: &Subcommand<'_>,
-    paths: &mut P,
-    input: &mut I,
-    out: &mut O,
-    err: &mut E,
+    streams: &mut Streams<'_, P, I, O, E, G>,
     look: Look,
-    progress: &mut G,
 ) -> Result<Answer, Refusal> {
     if let Some(option) = look.misused {
         return Err(Refusal::Usage(option));
     }
-    let mut warned = WarnedPaths::new(paths, err, look.warnings());
-    obey(rt, subcommand, &mut warned, input, out, look, progress)
+    let mut warned = WarnedPaths::new(&mut *streams.paths, &mut *streams.err, look.warnings());
+    let mut job = Job::new(
+        &mut warned,
+        &mut *streams.input,
+        &mut *streams.out,
+        &mut *streams.progress,
+        look,
+    );
+    job.obey(rt, subcommand)
 }

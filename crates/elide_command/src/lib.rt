@@ -12,6 +12,8 @@ mod answer;
 mod dispatch;
 mod look;
 mod obeying;
+mod streams;
 mod telling;
 
 pub use dispatch::{carry_out, command, end_early, misused, refuse};
+pub use streams::Streams;

@@ -11,13 +11,10 @@ ghost use Rattle.elide_command.specs.Telling.{refusal_text};
 ghost use Rattle.elide_setup.specs.Faults.{refusal_status};
 ghost use Rattle.elide_setup.specs.Told.{fault_back, fault_front};
 
-use arrayvec::ArrayVec;
 use elide_color::{Style, push_painted};
 use elide_setup::{Fault, Refusal, push_back, push_front, push_name};
+use text_out::text_line::TextLine;
 use text_out::{Failed, Out};
-
-// The line that tells a fault.
-type Line = ArrayVec<u8, 160>;
 
 /// Tells why a command ended, painted or not, and gives its status.
 pub fn tell<E: Out>(refusal: Refusal, is_painted: bool, err: &mut E) -> u8
@@ -44,9 +41,9 @@ fn write_fault<E: Out>(fault: Fault, is_painted: bool, err: &mut E) -> Result<()
     ensures { (name : List ℕ) × Writes (E.device err.old) (E.device err.new)
         (painted is_painted style.Fault (fault_front fault) ++ name ++ fault_back fault) result }
 {
-    let mut front = Line::new();
+    let mut front = TextLine::new();
     push_front(&mut front, fault);
-    let mut line = Line::new();
+    let mut line = TextLine::new();
     push_painted(&mut line, is_painted, Style::Fault, front.as_slice());
     push_name(&mut line, fault);
     push_back(&mut line, fault);
@@ -67,7 +64,7 @@ fn put_front<E: Out>(front: &[u8], is_painted: bool, err: &mut E) -> Result<(), 
     requires { length front.now + 11 ≤ 160 }
     ensures { Writes (E.device err.old) (E.device err.new) (painted is_painted style.Fault front.now) result }
 {
-    let mut line = Line::new();
+    let mut line = TextLine::new();
     push_painted(&mut line, is_painted, Style::Fault, front);
     err.put(line.as_slice())
 }

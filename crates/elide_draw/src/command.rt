@@ -6,7 +6,7 @@
 //! `tm_timeline`'s.
 
 ghost use Rattle.std.specs.Prelude.{Option, ◌≡◌, ℕ, IfOk, List, OnOk};
-ghost use Rattle.elide_program.specs.ProgramFile.{IsFile, IsRead};
+ghost use Rattle.elide_program.specs.ProgramFile.{IsRead};
 ghost use Rattle.elide_program.specs.declared.file.ProgramFile.{ProgramFile};
 ghost use Rattle.elide_setup.specs.Made.{HasRun, HasRunCourse, HasRunPlan};
 ghost use Rattle.elide_setup.specs.Recorded.{IsRecorded};
@@ -15,14 +15,14 @@ ghost use Rattle.elide_setup.specs.Setup.{IsSetup};
 ghost use Rattle.elide_program.specs.declared.settings.Settings.{Settings};
 
 use crate::course::{Tally, count_steps, watch_course};
-use crate::extent::{Extent, rows_of};
+use crate::extent::{rows_of, window_of};
 use crate::line_names::LineNames;
 use crate::scene::ProgramScene;
 use elide_args::DrawOptions;
 use elide_device::{Gathered, Lent, Progress};
-use elide_places::Places;
-use elide_program::{Paths, ProgramFile, Settings, read_file};
-use elide_setup::{Course, Plan, Refusal, Setup, record_path};
+use elide_places::{Places, Wants};
+use elide_program::{Paths, Settings, name_of, read_file};
+use elide_setup::{Course, Extent, LoadedFile, Plan, Refusal, Setup, record_path};
 use std::alloc::Global;
 use text_out::Out;
 use tm_timeline::{Label, Rows, Timeline};
@@ -107,31 +107,26 @@ fn draw_plan<P: Paths, O: Out, G: Progress>(
         × ((other : List ℕ) → given other ≡ P.content paths.old other)
         × HasRunPlan given (P.content paths.new) file asked.now.settings plan.entry asked.now.path) }
 {
-    let (setup, places) = load(alloc, asked, paths)?;
+    let loaded = load(alloc, asked, paths)?;
     let drawing = Drawing {
         alloc,
-        setup: &setup,
-        places: &places,
+        setup: &loaded.setup,
+        places: &loaded.names.places,
         asked,
     };
     let drawn = draw_loaded(drawing, plan, paths, out, progress);
-    drop(places);
-    drop(setup);
+    drop(loaded);
     drawn
 }
 
 // Reads FILE: its program, and its places.
-fn load<P: Paths>(
-    alloc: Global,
-    asked: &Asked<'_>,
-    paths: &mut P,
-) -> Result<(Setup, Places), Refusal>
-    ensures loaded { IfOk result (λ made. (file : ProgramFile)
-        × IsRead (P.content paths.old asked.now.file.now) file × IsSetup file asked.now.settings made.0) }
+fn load<P: Paths>(alloc: Global, asked: &Asked<'_>, paths: &mut P) -> Result<LoadedFile, Refusal>
+    ensures loaded { IfOk result (λ loaded. (file : ProgramFile)
+        × IsRead (P.content paths.old asked.now.file.now) file × IsSetup file asked.now.settings loaded.setup) }
     ensures kept { (other : List ℕ) → P.content paths.new other ≡ P.content paths.old other }
 {
     let text = read_file(asked.file, paths)?;
-    setup_of(alloc, &asked.settings, text.as_slice())
+    LoadedFile::of_text(alloc, &asked.settings, text.as_slice(), Wants::PLACES)
 }
 
 // Reads the schedule of a program that is loaded, and draws its run.
@@ -167,7 +162,7 @@ fn draw_course<P: Paths, O: Out, G: Progress>(
     let asked = drawing.asked;
     // First, as this alone says how many steps there are to choose from.
     let tally = count_steps(alloc, setup, course, asked.path.is_some(), progress)?;
-    let window = asked.extent.window(tally.total)?;
+    let window = window_of(&asked.extent, tally.total)?;
     let scene = ProgramScene {
         alloc,
         program: &setup.program,
@@ -209,22 +204,4 @@ fn write_timeline<O: Out>(
     timeline.write(&title, &asked.rows, &LineNames { places }, &mut page)?;
     page.finish()?;
     Ok(())
-}
-
-// The program of a text, and its places.
-fn setup_of(alloc: Global, settings: &Settings<'_>, text: &[u8]) -> Result<(Setup, Places), Refusal>
-    ensures { IfOk result (λ made. (file : ProgramFile) × IsFile text.now file × IsSetup file settings.now made.0) }
-{
-    let file = ProgramFile::read(alloc, text)?;
-    let setup = Setup::of_file(alloc, settings, &file)?;
-    let places = Places::of_file(alloc, &file, text)?;
-    Ok((setup, places))
-}
-
-// The last part of a path.
-fn name_of(path: &str) -> &str {
-    match path.rsplit_once('/') {
-        Some((_folder, name)) => name,
-        None => path,
-    }
 }

@@ -4,6 +4,9 @@
 //! The texts are those of a trace, cut to a label's room. Variables are addresses and names here: what memory holds
 //! there is read in `watch`.
 
+ghost use Rattle.std.specs.Prelude.{◌<◌, length};
+ghost use Rattle.tm_trace.specs.Deeds.{IsReachSaid};
+
 use debug_command::write_place;
 use ia_image::Program;
 use ia_text::write_insn;
@@ -12,13 +15,16 @@ use std::str;
 use symbols::Symbol;
 use text_out::ToVec;
 use tm_core::Machine;
+use tm_model::Reach;
 use tm_timeline::{Label, StepText};
 use tm_trace::{Before, Deed, write_values};
 
 /// What steps are described by. A trait, since what a walk comes to is known of a maker whose type names no lifetime.
 pub trait Scene {
-    /// What is known of a step before it is made.
-    fn before(&self, machine: &Machine, core: u8) -> Option<Before>;
+    /// What is known of a step of a core before it is made, of which its preview says that it reaches these bytes.
+    fn before(&self, machine: &Machine, core: u8, reach: Reach) -> Before
+        requires core { core < length machine.now.views }
+        requires reach { IsReachSaid machine.now core reach };
 
     /// What a step did, in words.
     fn text(&self, deed: &Deed) -> Result<StepText, AllocError>;
@@ -46,8 +52,8 @@ pub struct ProgramScene<'a> {
 }
 
 impl Scene for ProgramScene<'_> {
-    fn before(&self, machine: &Machine, core: u8) -> Option<Before> {
-        Before::of(machine, self.program, core)
+    fn before(&self, machine: &Machine, core: u8, reach: Reach) -> Before {
+        Before::reaching(machine, self.program, core, reach)
     }
 
     fn text(&self, deed: &Deed) -> Result<StepText, AllocError> {

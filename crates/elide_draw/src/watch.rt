@@ -1,26 +1,26 @@
 //! A step, and whom it hits: a machine whose steps a timeline is told.
 //!
-//! [`Watcher`] asks the machine before the step what is told of it, and only where the picture shows steps or lines.
-//! Behind the step the timeline is told the hits, then the step, what it did, and last the variables: a hit is of
-//! transactions that were open before. Which part is drawn, and how, is the timeline's.
+//! [`Watcher`] asks the machine before the step what is told of it, by one preview, and only where the picture shows
+//! steps or lines. Behind the step the timeline is told the hits, then the step, what it did, and last the variables: a
+//! hit is of transactions that were open before. Which part is drawn, and how, is the timeline's.
 
 ghost use Rattle.std.specs.Prelude.{◌≡◌, ◌∷◌, [], IfOk, OnOk};
 ghost use Rattle.elide_draw.specs.Told.{AreTold};
 ghost use Rattle.elide_setup.specs.Runs.{AreMachineSteps, IsMachineStep};
+ghost use Rattle.tm_core.specs.Previewed.{IsPreview};
 ghost use Rattle.tm_timeline.specs.Told.{SameSteps};
 
 use crate::rounds::{MadeStep, Rounds};
 use crate::scene::Scene;
 use elide_setup::{Refusal, StepMaker};
 use std::alloc::AllocError;
-use tm_core::Machine;
-use tm_model::{CoreState, Outcome, Pick};
-use tm_sets::Kind;
-use tm_timeline::{LineUse, Timeline};
-use tm_trace::Deed;
+use tm_core::{Machine, Preview};
+use tm_model::{CoreState, Hit, Outcome, Pick};
+use tm_timeline::Timeline;
+use tm_trace::{Before, Deed};
 
-// How the next step uses the line on which it hits a core, for each core.
-type Uses = [Option<LineUse>; 64];
+// How the next step hits each core.
+type Hits = [Option<Hit>; 64];
 
 /// A machine whose steps a timeline is told.
 #[derive(Drop)]
@@ -72,27 +72,50 @@ fn watch_step<S: Scene>(
     ensures told { IfOk result (λ outcome. AreTold timeline.old ((pick, outcome) ∷ []) timeline.new) }
 {
     let core = pick.core;
-    let before = if timeline.shows_steps() {
-        scene.before(machine, core)
-    } else {
-        None
-    };
-    let uses = if timeline.shows_lines() {
-        uses_of(machine, core)
-    } else {
-        None
-    };
+    let asked = ask(machine, core, timeline, scene);
     let outcome = machine.make_step(pick)?;
     // Before the step is told: the timeline still has the transactions that were open before it.
-    tell_hits(machine, core, &uses, timeline)?;
+    tell_hits(machine, core, &asked.hits, timeline)?;
     let step = MadeStep {
         pick,
         outcome,
-        before,
+        before: asked.before,
     };
     tell_step(machine, &step, timeline, scene, rounds)?;
     tell_variables(machine, scene.variables(), timeline)?;
     Ok(outcome)
+}
+
+// What is asked of a step before it is made, as far as the picture shows it.
+#[derive(Clone, Copy)]
+struct Asked {
+    // What is known of it, where it is described.
+    before: Option<Before>,
+    // How it hits each core, where lines are shown and it hits one.
+    hits: Option<Hits>,
+}
+
+// Previews a step where a picture shows it: one that shows steps shows lines. Of a core that is not there nothing is
+// known: its step is refused.
+fn ask<S: Scene>(machine: &Machine, core: u8, timeline: &Timeline, scene: &S) -> Asked {
+    let nothing = Asked {
+        before: None,
+        hits: None,
+    };
+    if !timeline.shows_lines() {
+        return nothing;
+    }
+    let Ok(preview) = machine.preview(core) else {
+        return nothing;
+    };
+    Asked {
+        before: if timeline.shows_steps() {
+            Some(scene.before(machine, core, preview.reach))
+        } else {
+            None
+        },
+        hits: hits_of(machine, &preview),
+    }
 }
 
 // Tells what a step was, and what there is to tell of one that is drawn.
@@ -189,13 +212,13 @@ fn doubleword_at(memory: &[u8], address: u32) -> Option<u32> {
 fn tell_hits(
     machine: &Machine,
     core: u8,
-    uses: &Option<Uses>,
+    hits: &Option<Hits>,
     timeline: &mut Timeline,
 ) -> Result<(), AllocError>
     ensures { SameSteps timeline.old timeline.new }
 {
     for victim in 0..machine.cores() {
-        tell_hit(machine, core, victim, uses, timeline)?;
+        tell_hit(machine, core, victim, hits, timeline)?;
     }
     Ok(())
 }
@@ -206,7 +229,7 @@ fn tell_hit(
     machine: &Machine,
     core: u8,
     victim: u8,
-    uses: &Option<Uses>,
+    hits: &Option<Hits>,
     timeline: &mut Timeline,
 ) -> Result<(), AllocError>
     ensures { SameSteps timeline.old timeline.new }
@@ -214,7 +237,7 @@ fn tell_hit(
     if !timeline.is_open(victim) || !is_condemned(machine, victim) {
         return Ok(());
     }
-    timeline.hit(victim, core, use_on(uses, victim))
+    timeline.hit(victim, core, hit_on(hits, victim))
 }
 
 // Whether the transaction of a core is doomed.
@@ -222,30 +245,24 @@ fn is_condemned(machine: &Machine, core: u8) -> bool {
     matches!(machine.state(core), Ok(CoreState::Condemned(_)))
 }
 
-// How the step used the line on which it hit a core, where that was asked.
-fn use_on(uses: &Option<Uses>, victim: u8) -> Option<LineUse> {
-    match uses {
-        Some(uses) if victim < 64 => uses[usize::from(victim)],
+// How the step hit a core, where that was asked.
+fn hit_on(hits: &Option<Hits>, victim: u8) -> Option<Hit> {
+    match hits {
+        Some(hits) if victim < 64 => hits[usize::from(victim)],
         _ => None,
     }
 }
 
-// How the next step of a core uses the lines on which it hits the others. None where it hits nobody.
-fn uses_of(machine: &Machine, core: u8) -> Option<Uses> {
-    let Ok(preview) = machine.preview(core) else {
-        return None;
-    };
-    if !machine.may_hit(&preview) {
+// How the previewed step hits each core. None where it hits nobody.
+fn hits_of(machine: &Machine, preview: &Preview) -> Option<Hits>
+    requires { IsPreview machine.now preview.now }
+{
+    if !machine.may_hit(preview) {
         return None;
     }
-    let mut uses = [None; 64];
+    let mut hits = [None; 64];
     for victim in 0..machine.cores() {
-        if let Ok(Some(hit)) = machine.hit_by(&preview, victim) {
-            uses[usize::from(victim)] = Some(LineUse {
-                line: hit.line,
-                is_write: hit.kind == Kind::Write,
-            });
-        }
+        hits[usize::from(victim)] = machine.hit_by(preview, victim).unwrap();
     }
-    Some(uses)
+    Some(hits)
 }

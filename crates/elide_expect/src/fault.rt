@@ -1,4 +1,4 @@
-//! Why tests were not read.
+//! Why the tests of a file were not read, with the line where that shows; the first one is told.
 
 ghost use Rattle.std.specs.Prelude.{◌≡◌};
 ghost use Rattle.elide_expect.specs.declared.fault.TestFault.TheVariants.{NoMemory};

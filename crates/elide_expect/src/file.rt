@@ -1,4 +1,5 @@
-//! Tests as they are read.
+//! Tests as they are read from a file's remarks: commands, and below each what is expected of it. An expectation that
+//! goes with no command, or clashes with one before, is a fault; nothing is run here.
 
 ghost use Rattle.std.specs.Prelude.{◌≡◌, ◌&&◌, [], ◌<◌, IfOk, IfSome, length, map, not, position, option_map};
 ghost use Rattle.std.specs.List.{list_any, take_while};

@@ -1,4 +1,5 @@
-//! Expectations as they are read.
+//! Expectations as they are read: a text behind `expect:` comes in, and what is expected comes out, or nothing where it
+//! says none of these things.
 
 ghost use Rattle.std.specs.Prelude.{◌≡◌, IfOk, option_map};
 ghost use Rattle.std.specs.Char.{is_ascii_digit};

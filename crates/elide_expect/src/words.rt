@@ -1,4 +1,5 @@
-//! The words of a command.
+//! The words of a command, read a byte at a time, with blanks between and quotes as a shell has them. Nothing is
+//! expanded.
 
 ghost use Rattle.std.specs.Prelude.{◌≡◌, ◌∷◌, ◌++◌, [], ℕ, List, IfOk, option_map};
 ghost use Rattle.ia_lex.specs.Chars.{is_blank, is_quote};

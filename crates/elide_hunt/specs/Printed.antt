@@ -4,11 +4,12 @@ use Rattle.std.specs.Io.KnownBytes.{Appends}
 use Rattle.std.specs.Option.{option_copied}
 use Rattle.elide_args.specs.declared.hunt_options.HuntOptions.{HuntOptions}
 use Rattle.elide_checks.specs.Checks.{AreChecks}
-use Rattle.elide_checks.specs.Runs.{AreJobs, AreRuns, events_asked, method_word}
+use Rattle.elide_checks.specs.Runs.{AreRuns, events_asked, method_word}
 use Rattle.elide_checks.specs.declared.orders.Orders.{Orders}
 use Rattle.elide_object.specs.Object.{object_text}
 use Rattle.elide_program.specs.declared.file.ProgramFile.{ProgramFile}
 use Rattle.elide_program.specs.Settings.{number_or, number_said}
+use Rattle.elide_setup.specs.Jobs.{AreJobs}
 use Rattle.elide_setup.specs.Recorded.{IsRecorded}
 use Rattle.tm_schedule.specs.Schedule.{schedule_text}
 use Rattle.elide_setup.specs.Setup.{IsAsked}

@@ -11,7 +11,7 @@ ghost use Rattle.text_out.specs.Writing.{Wrote};
 ghost use Rattle.elide_hunt.specs.Again.{demand_text, demands_text, flag_text, hunt_command, plan_text, runs_text};
 ghost use Rattle.elide_shell.specs.Shell.{shell_word};
 
-use crate::report::Line;
+use crate::report::HuntLine;
 use elide_args::HuntOptions;
 use elide_shell::{put_machine, put_option, put_path, put_word};
 use text_out::page::{push, push_decimal};
@@ -79,12 +79,12 @@ fn put_plan<O: Out>(options: &HuntOptions<'_>, out: &mut O) -> Result<(), Failed
 fn put_runs<O: Out>(run: u32, out: &mut O) -> Result<(), Failed>
     ensures { OnOk result (Wrote (O.device out.old) (O.device out.new) (runs_text run)) }
 {
-    let mut line = Line::new();
+    let mut line = HuntLine::new();
     push_runs(&mut line, run);
     out.put(line.as_slice())
 }
 
-fn push_runs(line: &mut Line, run: u32)
+fn push_runs(line: &mut HuntLine, run: u32)
     requires { array_vec_len line.old ≡ 0 }
     ensures { line.new.items ≡ line.old.items ++ runs_text run }
 {

@@ -94,10 +94,8 @@ impl Block<'_> {
     {
         let first = self.start_of(job);
         let end = self.start_of(job + 1);
-        match first_failing(alloc, &self.trial, &PlannedRuns, self.plan, first, end) {
-            Ok(search) => Ok(share_of(&search)),
-            Err(fault) => Err(fault),
-        }
+        let search = first_failing(alloc, &self.trial, &PlannedRuns, self.plan, first, end)?;
+        Ok(share_of(&search))
     }
 
     // Where the share of a thread begins.

@@ -10,7 +10,7 @@ ghost use Rattle.text_out.specs.Writing.{Wrote};
 ghost use Rattle.elide_hunt.specs.Cycles.{cycle_front, cycle_text, from_text, loop_text, told_loop, word_text};
 ghost use Rattle.tm_hunt.specs.Cycle.{loop_of};
 
-use crate::report::Line;
+use crate::report::HuntLine;
 use elide_shell::step_word;
 use text_out::page::{push, push_decimal};
 use text_out::{Failed, Out};
@@ -43,13 +43,13 @@ fn put_told<O: Out>(cycle: Cycle, picks: &[Pick], out: &mut O) -> Result<(), Fai
 fn put_front<O: Out>(cycle: Cycle, out: &mut O) -> Result<(), Failed>
     ensures { OnOk result (Wrote (O.device out.old) (O.device out.new) (cycle_front cycle)) }
 {
-    let mut line = Line::new();
+    let mut line = HuntLine::new();
     push_cycle(&mut line, cycle);
     out.put(line.as_slice())
 }
 
 #[tactic(auto, unfolding(crate::specs::Cycles::cycle_front))]
-fn push_cycle(line: &mut Line, cycle: Cycle)
+fn push_cycle(line: &mut HuntLine, cycle: Cycle)
     requires { array_vec_len line.old ≡ 0 }
     ensures { line.new.items ≡ line.old.items ++ cycle_front cycle }
 {
@@ -60,7 +60,7 @@ fn push_cycle(line: &mut Line, cycle: Cycle)
 }
 
 // Adds where it begins.
-fn push_from(line: &mut Line, start: usize)
+fn push_from(line: &mut HuntLine, start: usize)
     requires { array_vec_len line.old ≤ 64 }
     ensures { line.new.items ≡ line.old.items ++ from_text start }
 {

@@ -10,13 +10,10 @@ ghost use Rattle.elide_hunt.specs.Lines.{is_short, replay_command, told_command,
 
 use crate::again::put_hunt;
 use elide_args::HuntOptions;
-use elide_shell::{put_machine, put_path, put_schedule};
+use elide_shell::{MOST_SHOWN, put_machine, put_path, put_schedule};
 use std::alloc::{AllocError, Global};
 use text_out::{Failed, Out, ToVec};
 use tm_model::Pick;
-
-/// The most steps of a schedule that is printed in a command line.
-const MOST_SHOWN: usize = 1000;
 
 /// Writes the command that replays the schedule of the run of this number, or makes the run again where its schedule is
 /// recorded nowhere and too long to be printed, on a line of its own.

@@ -52,7 +52,7 @@ pub fn counts_of(picks: &[Pick]) -> Counts
 }
 
 /// A line of numbers.
-pub type Line = ArrayVec<u8, 320>;
+pub type HuntLine = ArrayVec<u8, 320>;
 
 /// Prints the lines of a search, with what is told beside its failure.
 pub fn tell_lines<O: Out>(
@@ -73,13 +73,13 @@ pub fn tell_lines<O: Out>(
 fn tell_none<O: Out>(ended: u32, cut: u32, out: &mut O) -> Result<(), Failed>
     ensures { OnOk result (Wrote (O.device out.old) (O.device out.new) (none_line ended cut)) }
 {
-    let mut line = Line::new();
+    let mut line = HuntLine::new();
     push_none(&mut line, ended, cut);
     out.put(line.as_slice())
 }
 
 #[tactic(auto, unfolding(crate::specs::Lines::none_line))]
-fn push_none(line: &mut Line, ended: u32, cut: u32)
+fn push_none(line: &mut HuntLine, ended: u32, cut: u32)
     requires { array_vec_len line.old ≡ 0 }
     ensures { line.new.items ≡ line.old.items ++ none_line ended cut }
 {
@@ -117,13 +117,13 @@ fn tell_failure<O: Out>(
 fn put_run<O: Out>(run: u32, out: &mut O) -> Result<(), Failed>
     ensures { OnOk result (Wrote (O.device out.old) (O.device out.new) (run_front run)) }
 {
-    let mut line = Line::new();
+    let mut line = HuntLine::new();
     push_run(&mut line, run);
     out.put(line.as_slice())
 }
 
 #[tactic(auto, unfolding(crate::specs::Lines::run_front))]
-fn push_run(line: &mut Line, run: u32)
+fn push_run(line: &mut HuntLine, run: u32)
     requires { array_vec_len line.old ≡ 0 }
     ensures { line.new.items ≡ line.old.items ++ run_front run }
 {
@@ -141,13 +141,13 @@ fn put_counts<O: Out>(
 ) -> Result<(), Failed>
     ensures { OnOk result (Wrote (O.device out.old) (O.device out.new) (counts_line before after front)) }
 {
-    let mut line = Line::new();
+    let mut line = HuntLine::new();
     push_change(&mut line, before, after, front);
     out.put(line.as_slice())
 }
 
 #[tactic(auto, unfolding(crate::specs::Lines::counts_line))]
-fn push_change(line: &mut Line, before: Counts, after: Counts, front: usize)
+fn push_change(line: &mut HuntLine, before: Counts, after: Counts, front: usize)
     requires { array_vec_len line.old ≡ 0 }
     ensures { line.new.items ≡ line.old.items ++ counts_line before after front }
 {
@@ -161,7 +161,7 @@ fn push_change(line: &mut Line, before: Counts, after: Counts, front: usize)
 
 // Adds how many of the first steps decide, where they are not all.
 #[tactic(auto, unfolding(crate::specs::Lines::deciding_text))]
-fn push_deciding(line: &mut Line, front: usize, steps: usize)
+fn push_deciding(line: &mut HuntLine, front: usize, steps: usize)
     requires { array_vec_len line.old ≤ 240 }
     ensures text { line.new.items ≡ line.old.items ++ deciding_text front steps }
     ensures len { array_vec_len line.new ≤ array_vec_len line.old + 71 }
@@ -172,7 +172,7 @@ fn push_deciding(line: &mut Line, front: usize, steps: usize)
 }
 
 // Adds how many of the first steps decide, behind which each core steps in turn.
-fn push_front(line: &mut Line, front: usize)
+fn push_front(line: &mut HuntLine, front: usize)
     requires { array_vec_len line.old ≤ 240 }
     ensures text { line.new.items ≡ line.old.items ++ front_text front }
     ensures len { array_vec_len line.new ≤ array_vec_len line.old + 71 }
@@ -184,7 +184,7 @@ fn push_front(line: &mut Line, front: usize)
     }
 }
 
-fn push_some(line: &mut Line, front: u64)
+fn push_some(line: &mut HuntLine, front: u64)
     requires { array_vec_len line.old ≤ 240 }
     ensures text { line.new.items ≡ line.old.items ++ some_text front }
     ensures len { array_vec_len line.new ≤ array_vec_len line.old + 71 }
@@ -195,7 +195,7 @@ fn push_some(line: &mut Line, front: u64)
 }
 
 #[tactic(auto, unfolding(crate::specs::Lines::counts_text))]
-fn push_counts(line: &mut Line, counts: Counts)
+fn push_counts(line: &mut HuntLine, counts: Counts)
     requires { array_vec_len line.old ≤ 128 }
     ensures text { line.new.items ≡ line.old.items ++ counts_text counts }
     ensures len { array_vec_len line.new ≤ array_vec_len line.old + 90 }
@@ -208,7 +208,7 @@ fn push_counts(line: &mut Line, counts: Counts)
 }
 
 // Adds how many events there are, where there are any.
-fn push_events(line: &mut Line, count: u64)
+fn push_events(line: &mut HuntLine, count: u64)
     requires { array_vec_len line.old ≤ 192 }
     ensures text { line.new.items ≡ line.old.items ++ events_text count }
     ensures len { array_vec_len line.new ≤ array_vec_len line.old + 29 }

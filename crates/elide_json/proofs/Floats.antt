@@ -8,6 +8,7 @@ use Rattle.ia_regs.specs.declared.Regs.{Regs}
 use Rattle.serde_json.specs.Data.{Members, boolean, member, string}
 use Rattle.serde_json.specs.Written.{has_float, items_have_float, members_have_float}
 use Rattle.tm_core.specs.Theorem.{ShownMachine as Machine, view_at}
+use Rattle.tm_hist.specs.Lines.{status_of}
 use Rattle.tm_model.specs.declared.outcome.CoreState.{CoreState}
 use Rattle.tm_model.specs.declared.outcome.Outcome.{Outcome}
 use Rattle.elide_json.specs.Cores.{core_object, core_value, cores_value, flag_names}
@@ -15,7 +16,7 @@ use Rattle.elide_json.specs.Memory.{dump_row, show_row}
 use Rattle.elide_json.specs.Objects.{running_value, status_member}
 use Rattle.elide_json.specs.Outcomes.{outcome_value}
 use Rattle.elide_json.specs.Shown.{sent_members, sent_replay, sent_run, sent_threads}
-use Rattle.elide_json.specs.Words.{number_or_null, outcome_event, outcome_status, outcome_stop, state_stop}
+use Rattle.elide_json.specs.Words.{number_or_null, outcome_event, outcome_stop, state_stop}
 use Rattle.elide_object.specs.Object.{text_or_null}
 use Rattle.elide_json.specs.declared.objects.ReplayObject.{ReplayObject}
 use Rattle.elide_json.specs.declared.objects.RunEnd.{RunEnd}
@@ -34,7 +35,7 @@ pub no_float_outcome : (step core : ℕ) (outcome : Outcome) → has_float (outc
 unfolding outcome_value
 no_float_outcome step core outcome =
     no_float_both (has_float (text_or_null (outcome_stop outcome))) _ (no_float_word (outcome_stop outcome))
-    (no_float_both (has_float (number_or_null (outcome_status outcome))) _ (no_float_number (outcome_status outcome))
+    (no_float_both (has_float (number_or_null (status_of outcome))) _ (no_float_number (status_of outcome))
     (no_float_both (has_float (text_or_null (outcome_event outcome))) false
     (no_float_word (outcome_event outcome)) refl))
 

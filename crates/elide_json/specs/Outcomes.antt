@@ -5,9 +5,10 @@ use Rattle.std.specs.List.{enumerate_from}
 use Rattle.elide_object.specs.Object.{list_value, number_value, object_text}
 use Rattle.serde_json.specs.Data.{Data, Members, member, no_members, null, object, string}
 use Rattle.serde_json.specs.Written.{comma_if, compact_text}
+use Rattle.tm_hist.specs.Lines.{status_of}
 use Rattle.tm_model.specs.declared.outcome.Outcome.{Outcome}
 use Rattle.tm_model.specs.declared.outcome.Pick.{Pick}
-use Rattle.elide_json.specs.Words.{number_or_null, outcome_event, outcome_name, outcome_status, outcome_stop}
+use Rattle.elide_json.specs.Words.{number_or_null, outcome_event, outcome_name, outcome_stop}
 use Rattle.elide_object.specs.Object.{text_or_null}
 
 -- the outcome of the step of this number, which was this core's
@@ -17,7 +18,7 @@ outcome_value number core outcome =
     (member (codes "core") (number_value core)
     (member (codes "outcome") (string (outcome_name outcome))
     (member (codes "stop") (text_or_null (outcome_stop outcome))
-    (member (codes "status") (number_or_null (outcome_status outcome))
+    (member (codes "status") (number_or_null (status_of outcome))
     (member (codes "event") (text_or_null (outcome_event outcome)) no_members))))))
 
 -- of a step, which is its number and a pick with its outcome

@@ -38,6 +38,7 @@ outcome_name outcome.Inside = codes "inside"
 outcome_name outcome.Committed = codes "committed"
 outcome_name (outcome.Aborted status) = codes "aborted"
 outcome_name (outcome.AbortedBy by status) = codes "aborted"
+outcome_name outcome.Drained = codes "drained"
 
 -- why the core stopped at this step
 abbrev pub outcome_stop : Outcome → Option (List ℕ)
@@ -50,18 +51,7 @@ outcome_stop outcome.Inside = None
 outcome_stop outcome.Committed = None
 outcome_stop (outcome.Aborted status) = None
 outcome_stop (outcome.AbortedBy by status) = None
-
--- the status of an abort, as EAX holds it
-abbrev pub outcome_status : Outcome → Option ℕ
-outcome_status outcome.Plain = None
-outcome_status outcome.Loaded = None
-outcome_status (outcome.Stopped why) = None
-outcome_status outcome.Idle = None
-outcome_status outcome.Begun = None
-outcome_status outcome.Inside = None
-outcome_status outcome.Committed = None
-outcome_status (outcome.Aborted status) = Some status
-outcome_status (outcome.AbortedBy by status) = Some status
+outcome_stop outcome.Drained = None
 
 -- what aborted the transaction from outside of the program
 abbrev pub outcome_event : Outcome → Option (List ℕ)
@@ -74,3 +64,4 @@ outcome_event outcome.Inside = None
 outcome_event outcome.Committed = None
 outcome_event (outcome.Aborted status) = None
 outcome_event (outcome.AbortedBy by status) = Some (interference_word by)
+outcome_event outcome.Drained = None

@@ -4,22 +4,20 @@
 //! `OutOfRange`, before a byte is sent. [`send_dumps`] and [`send_shows`] send them. Where a sum leads to was found out
 //! when the program was loaded; the text that asked for it is told as it was given.
 
-ghost use Rattle.std.specs.Prelude.{◌≡◌, ◌+◌, ◌≤◌, ◌++◌, ◌∷◌, [], IfErr, IfOk, OnOk, codes, false, length, map};
-ghost use Rattle.std.specs.Prelude.{slice_range, string_bytes};
+ghost use Rattle.std.specs.Prelude.{◌≡◌, ◌+◌, IfErr, IfOk, OnOk, codes, false, length, map};
 ghost use Rattle.std.specs.List.{list_all, zip};
 ghost use Rattle.elide_object.specs.Object.{SendsMember, list_value};
 ghost use Rattle.elide_setup.specs.Shown.{are_held, doubleword, is_dump_held, is_value_held};
-ghost use Rattle.hex.specs.Hex.{encode_lower};
 ghost use Rattle.serde_json.specs.Events.{SendsValue};
 ghost use Rattle.elide_json.specs.Memory.{AreRowsOf, dump_at, dump_row, show_at, show_row, show_value};
 ghost use Rattle.elide_json.specs.Refused.{IsNoRow};
 
 use elide_object::{send_number, send_text};
-use elide_program::{Dump, MemoryParts};
+use elide_program::{Dump, MemoryParts, add};
 use elide_setup::{Fault, Refusal};
 use ia_word::Width;
 use serde::Serializer;
-use std::alloc::{AllocError, Global};
+use std::alloc::Global;
 use tm_whole::memory::read;
 
 /// A part of a memory.
@@ -122,16 +120,6 @@ fn row_of_show(alloc: Global, memory: &[u8], text: &str, address: u32) -> Result
     let at = String::from_str(alloc, text)?;
     let value = value_at(memory, address)?;
     Ok(ShowRow { at, address, value })
-}
-
-// Adds a row at the end.
-fn add<T: Drop>(rows: &mut Vec<T>, row: T) -> Result<(), AllocError>
-    ensures { OnOk result (rows.new.items ≡ rows.old.items ++ row ∷ []) }
-{
-    match rows.push(row) {
-        Ok(()) => Ok(()),
-        Err(_) => Err(AllocError),
-    }
 }
 
 fn value_at(memory: &[u8], address: u32) -> Result<u32, Refusal>

@@ -12,12 +12,13 @@ ghost use Rattle.elide_json.specs.Outcomes.{outcome_value, row_text, run_front};
 ghost use Rattle.elide_json.specs.Refused.{IsUnsaid};
 
 use crate::text::text_of;
-use crate::words::{event_of, name_of_outcome, send_optional, status_of, stop_of_outcome};
+use crate::words::{event_of, name_of_outcome, send_optional, stop_of_outcome};
 use elide_object::{send_number, send_text, send_text_or_null};
 use elide_setup::Refusal;
 use serde::{Described, Serialize, Serializer};
 use std::alloc::{AllocError, Global};
 use text_out::Out;
+use tm_hist::status_of;
 use tm_model::Outcome;
 
 // What a step of a core was.

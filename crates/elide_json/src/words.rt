@@ -1,18 +1,17 @@
 //! Words, and members whose value may be missing: these are sent as `null`, so that each object has the same members.
 //!
-//! [`send_optional`] sends a member; the other calls say the word or the number of a state or an
-//! outcome, and where there is none. They send nothing.
+//! [`send_optional`] sends a member; the other calls say the word of a state or an outcome, and where there is
+//! none. They send nothing.
 
-ghost use Rattle.std.specs.Prelude.{◌≡◌, OnOk, option_map};
+ghost use Rattle.std.specs.Prelude.{◌≡◌, OnOk};
 ghost use Rattle.std.specs.Option.{option_copied};
 ghost use Rattle.elide_object.specs.Object.{SendsMember};
-ghost use Rattle.elide_json.specs.Words.{number_or_null, outcome_event, outcome_name, outcome_status, outcome_stop};
+ghost use Rattle.elide_json.specs.Words.{number_or_null, outcome_event, outcome_name, outcome_stop};
 ghost use Rattle.elide_json.specs.Words.{state_name, state_stop};
-ghost use Rattle.tm_hist.specs.Lines.{interference_word, stop_word};
 
 use serde::Serializer;
-use tm_model::{CoreState, Interference, Outcome};
-use tm_rule::Stop;
+use tm_hist::{interference_name, stop_name};
+use tm_model::{CoreState, Outcome};
 
 /// Sends a number, or null.
 pub fn send_optional<S: Serializer>(
@@ -47,7 +46,7 @@ pub fn stop_of_state(state: CoreState) -> Option<&'static str>
     ensures { option_copied result ≡ state_stop state }
 {
     match state {
-        CoreState::Stopped(stop) => Some(stop_text(stop)),
+        CoreState::Stopped(stop) => Some(stop_name(stop)),
         _ => None,
     }
 }
@@ -66,6 +65,7 @@ pub fn name_of_outcome(outcome: Outcome) -> &'static str
         Outcome::Committed => "committed",
         Outcome::Aborted(_) => "aborted",
         Outcome::AbortedBy(_, _) => "aborted",
+        Outcome::Drained => "drained",
     }
 }
 
@@ -74,18 +74,7 @@ pub fn stop_of_outcome(outcome: Outcome) -> Option<&'static str>
     ensures { option_copied result ≡ outcome_stop outcome }
 {
     match outcome {
-        Outcome::Stopped(stop) => Some(stop_text(stop)),
-        _ => None,
-    }
-}
-
-/// The status of an abort, where a step was one.
-pub fn status_of(outcome: Outcome) -> Option<u32>
-    ensures { result ≡ outcome_status outcome }
-{
-    match outcome {
-        Outcome::Aborted(status) => Some(status),
-        Outcome::AbortedBy(_, status) => Some(status),
+        Outcome::Stopped(stop) => Some(stop_name(stop)),
         _ => None,
     }
 }
@@ -95,33 +84,7 @@ pub fn event_of(outcome: Outcome) -> Option<&'static str>
     ensures { option_copied result ≡ outcome_event outcome }
 {
     match outcome {
-        Outcome::AbortedBy(interference, _) => Some(event_text(interference)),
+        Outcome::AbortedBy(interference, _) => Some(interference_name(interference)),
         _ => None,
-    }
-}
-
-fn event_text(interference: Interference) -> &'static str
-    ensures { result.now ≡ interference_word interference }
-{
-    match interference {
-        Interference::Interrupt => "interrupt",
-        Interference::Eviction => "eviction",
-        Interference::Snoop => "snoop",
-    }
-}
-
-fn stop_text(stop: Stop) -> &'static str
-    ensures { result.now ≡ stop_word stop }
-{
-    match stop {
-        Stop::Divide => "#DE",
-        Stop::Breakpoint => "#BP",
-        Stop::Undefined => "#UD",
-        Stop::Protection => "#GP",
-        Stop::Halt => "HLT",
-        Stop::Range => "range",
-        Stop::CodeStore => "code-store",
-        Stop::Fetch => "fetch",
-        Stop::NotInSubset => "not-in-subset",
     }
 }

@@ -1,4 +1,4 @@
-//! The line of an object.
+//! An object's line: JSON without spaces, and a line feed behind it, so that each line of an output is one object.
 
 ghost use Rattle.std.specs.Prelude.{◌≡◌, ◌++◌, IfOk, false, string_bytes};
 ghost use Rattle.text_out.specs.TextLine.{line_end};

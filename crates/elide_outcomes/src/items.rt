@@ -4,8 +4,7 @@
 //! one is wanted is told only where nothing else is asked for. Whether the machine has them is asked in `command`,
 //! before the search. Their words are printed as they were given, by `naming`.
 
-ghost use Rattle.std.specs.Prelude.{◌≡◌, ◌⊎◌, ◌++◌, ◌∷◌, [], MatchOption, MatchResult, None, OnOk, Some, codes};
-ghost use Rattle.std.specs.Prelude.{false, true};
+ghost use Rattle.std.specs.Prelude.{◌≡◌, ◌⊎◌, [], MatchOption, MatchResult, None, Some, codes, false, true};
 ghost use Rattle.std.specs.Option.{option_copied};
 ghost use Rattle.ia_lex.specs.Words.{register_of};
 ghost use Rattle.ia_word.specs.declared.width.Width.TheVariants.{D};
@@ -17,9 +16,9 @@ ghost use Rattle.elide_outcomes.specs.Items.{AreItems, HasNoItem, IsItem, IsNoSh
 ghost use Rattle.elide_outcomes.specs.Refused.{AreNoItems};
 
 use elide_checks::{core_of, register_named};
-use elide_program::{ProgramFile, sum_of};
+use elide_program::{ProgramFile, add, sum_of};
 use elide_setup::Refusal;
-use std::alloc::{AllocError, Global};
+use std::alloc::Global;
 use tm_outcomes::Item;
 
 /// The items of `--show`: registers of cores, as `eax@0`, and doublewords at symbols or sums. One is wanted at least,
@@ -67,13 +66,6 @@ fn items_in(alloc: Global, text: &str, file: &ProgramFile<'_>) -> Result<Vec<Ite
         add(&mut items, item)?;
     }
     Ok(items)
-}
-
-// Adds one at the end.
-fn add(items: &mut Vec<Item>, item: Item) -> Result<(), AllocError>
-    ensures { OnOk result (items.new.items ≡ items.old.items ++ item ∷ []) }
-{
-    items.push(item).map_err(|_| AllocError)
 }
 
 fn item_of(word: &str, file: &ProgramFile<'_>) -> Option<Item>

@@ -3,12 +3,11 @@
 //! Promised: a label that is found stands at its address by the symbols of the file, and its name is told as it is
 //! shown (`specs/Names.antt`). That each label is found is compared by `doc_tests`.
 
-ghost use Rattle.std.specs.Prelude.{◌≡◌, ◌++◌, ◌∷◌, [], All, IfOk, OnOk, find, option_map};
+ghost use Rattle.std.specs.Prelude.{◌≡◌, All, IfOk, OnOk, option_map};
 ghost use Rattle.elide_outcomes.specs.Names.{IsLabelOf, label_at};
-ghost use Rattle.symbols.specs.Symbols.{stands_at};
 
 use elide_places::Places;
-use elide_program::ProgramFile;
+use elide_program::{ProgramFile, add};
 use std::alloc::{AllocError, Global};
 use symbols::{Symbol, first_at};
 
@@ -59,12 +58,6 @@ fn add_label(
     };
     let label = Symbol::of(alloc, &[], name, address)?;
     add(labels, label)
-}
-
-fn add(labels: &mut Vec<Symbol>, label: Symbol) -> Result<(), AllocError>
-    ensures { OnOk result (labels.new.items ≡ labels.old.items ++ label ∷ []) }
-{
-    labels.push(label).map_err(|_| AllocError)
 }
 
 /// The name of the first label at an address, as it is shown.

@@ -9,7 +9,6 @@ ghost use Rattle.elide_setup.specs.Refused.{IsUntold};
 ghost use Rattle.elide_args.specs.Asked.{texts_of};
 ghost use Rattle.elide_object.specs.Object.{SendsMember, list_value, object_text};
 ghost use Rattle.serde_json.specs.Events.{SendsValue};
-ghost use Rattle.tm_hist.specs.Lines.{stop_word};
 ghost use Rattle.elide_outcomes.specs.Object.{IsObjectWritten, cycle_value, outcome_value, search_value, stop_value};
 ghost use Rattle.elide_outcomes.specs.Object.{stuck_value};
 ghost use Rattle.elide_outcomes.specs.Sent.{object_value};
@@ -26,8 +25,8 @@ use serde::{Described, Serialize, Serializer};
 use std::alloc::{AllocError, Global};
 use text_out::Out;
 use tm_core::RunFault;
+use tm_hist::stop_name;
 use tm_outcomes::{Cycle, FoundOutcome, ReachedStop, Search, Stuck};
-use tm_rule::Stop;
 
 /// Prints the object of a search whose outcomes stand in the order in which they are told, with the words of `--show`.
 pub fn tell_object<O: Out>(
@@ -145,26 +144,9 @@ fn send_stop<S: Serializer>(told: &ReachedStop, out: &mut S) -> Result<(), S::Er
     ensures { OnOk result (SendsValue (stop_value told.now) (S.written out.old) (S.written out.new)) }
 {
     out.begin_map(Some(2))?;
-    send_text("cause", cause_word(told.why), out)?;
+    send_text("cause", stop_name(told.why), out)?;
     send_schedule("schedule", told.schedule.as_slice(), out)?;
     out.end_map()
-}
-
-// The word that `--stop` takes.
-fn cause_word(why: Stop) -> &'static str
-    ensures { result.now ≡ stop_word why }
-{
-    match why {
-        Stop::Divide => "#DE",
-        Stop::Breakpoint => "#BP",
-        Stop::Undefined => "#UD",
-        Stop::Protection => "#GP",
-        Stop::Halt => "HLT",
-        Stop::Range => "range",
-        Stop::CodeStore => "code-store",
-        Stop::Fetch => "fetch",
-        Stop::NotInSubset => "not-in-subset",
-    }
 }
 
 fn send_stuck<S: Serializer>(stuck: &Option<Stuck>, out: &mut S) -> Result<(), S::Error>

@@ -3,11 +3,12 @@
 //! [`words_of`] parts them where `items` does, at white space, so that there are as many as values. It comes behind the
 //! search, which refused words that say nothing: only memory can be wanting here.
 
-ghost use Rattle.std.specs.Prelude.{◌≡◌, ◌++◌, ◌∷◌, [], IfOk, OnOk};
+ghost use Rattle.std.specs.Prelude.{IfOk};
 ghost use Rattle.std.specs.Option.{option_copied};
 ghost use Rattle.elide_args.specs.Asked.{texts_of};
 ghost use Rattle.elide_outcomes.specs.Items.{AreWords, AreWordsOf};
 
+use elide_program::add_text;
 use std::alloc::{AllocError, Global};
 
 /// The words of the option's value, with white space between; none where it is not given.
@@ -26,14 +27,7 @@ fn words_in<'a>(alloc: Global, text: &'a str) -> Result<Vec<&'a str>, AllocError
 {
     let mut words = Vec::new(alloc);
     for word in text.split_whitespace() {
-        add(&mut words, word)?;
+        add_text(&mut words, word)?;
     }
     Ok(words)
-}
-
-// Adds one at the end.
-fn add<'a>(words: &mut Vec<&'a str>, word: &'a str) -> Result<(), AllocError>
-    ensures { OnOk result (texts_of words.new.items ≡ texts_of words.old.items ++ word.now ∷ []) }
-{
-    words.push(word).map_err(|_| AllocError)
 }

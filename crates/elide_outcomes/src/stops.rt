@@ -2,14 +2,15 @@
 //!
 //! They are the words of `hunt`'s option, and read by the same call. That one is reached is found by the search.
 
-ghost use Rattle.std.specs.Prelude.{◌≡◌, ◌⊎◌, ◌++◌, ◌∷◌, [], MatchResult, OnOk};
+ghost use Rattle.std.specs.Prelude.{◌≡◌, ◌⊎◌, MatchResult};
 ghost use Rattle.elide_checks.specs.Refused.{IsNoStop};
 ghost use Rattle.elide_setup.specs.Faults.{want};
 ghost use Rattle.elide_outcomes.specs.Stops.{AreStops};
 
 use elide_checks::stop_of;
+use elide_program::add;
 use elide_setup::Refusal;
-use std::alloc::{AllocError, Global};
+use std::alloc::Global;
 use tm_rule::Stop;
 
 /// One for each word of `--stop`.
@@ -23,11 +24,4 @@ pub fn stops_of(alloc: Global, words: &[&str]) -> Result<Vec<Stop>, Refusal>
         add(&mut stops, why)?;
     }
     Ok(stops)
-}
-
-// Adds one at the end.
-fn add(stops: &mut Vec<Stop>, why: Stop) -> Result<(), AllocError>
-    ensures { OnOk result (stops.new.items ≡ stops.old.items ++ why ∷ []) }
-{
-    stops.push(why).map_err(|_| AllocError)
 }

@@ -3,7 +3,7 @@
 //! [`tell_violations`] goes in the order of the search, and names a check by the word of its option. In an object
 //! `sending` has them.
 
-ghost use Rattle.std.specs.Prelude.{◌++◌, OnOk, codes};
+ghost use Rattle.std.specs.Prelude.{◌++◌, OnOk};
 ghost use Rattle.text_out.specs.Writing.{Wrote};
 ghost use Rattle.elide_outcomes.specs.Violated.{check_words, violation_line, violation_lines};
 

@@ -133,10 +133,12 @@ impl StepTeller for ReasonTeller<'_> {
         pick: Pick,
         out: &mut O,
     ) -> Result<Outcome, Refusal> {
-        let before = before(machine, self.program, pick)?;
+        // One plan of the step for what it did and for why.
+        let reach = self.teller.ask(machine, pick)?;
+        let before = Before::reaching(machine, self.program, pick.core, reach);
         // The line without the instruction, which ends with the reason.
         let mut line = ToVec::new(Vec::new(self.alloc));
-        let told = self.teller.step(machine, pick, &mut line);
+        let told = self.teller.make(machine, pick, &mut line);
         // First: want of memory for the line would else be told as a device that failed.
         if line.failures > 0 {
             return Err(Refusal::from(AllocError));
@@ -147,8 +149,13 @@ impl StepTeller for ReasonTeller<'_> {
             return Err(Refusal::from(AllocError));
         }
         let deed = deed_of(&before, machine, pick, &outcome)?;
-        let reason = reason_in(line.bytes.as_slice(), front.bytes.as_slice());
-        write_explained(self.labels, pick.core, &outcome, &deed, reason, out)?;
+        let step = ExplainedStep {
+            core: pick.core,
+            outcome: &outcome,
+            deed: &deed,
+            reason: reason_in(line.bytes.as_slice(), front.bytes.as_slice()),
+        };
+        write_explained(self.labels, step, out)?;
         Ok(outcome)
     }
 }
@@ -169,20 +176,27 @@ fn separator_of(reason: &[u8]) -> &'static [u8] {
     if reason.len() > 1 { b"; " } else { b"" }
 }
 
-// Writes the line of an outcome with its instruction and a reason, which ends the line.
+// A step of a core, what it did, and what is told behind that.
+#[derive(Clone, Copy)]
+struct ExplainedStep<'a> {
+    core: u8,
+    outcome: &'a Outcome,
+    deed: &'a Deed,
+    // It ends the line.
+    reason: &'a [u8],
+}
+
+// Writes the line of an outcome with its instruction and a reason.
 fn write_explained<O: Out>(
     labels: &[Symbol],
-    core: u8,
-    outcome: &Outcome,
-    deed: &Deed,
-    reason: &[u8],
+    step: ExplainedStep<'_>,
     out: &mut O,
 ) -> Result<(), WriteFault>
     ensures { IfOk result (λ _. (text : List ℕ) × Wrote (O.device out.old) (O.device out.new) text) }
 {
-    write_front(core, outcome, deed.eip, out)?;
-    write_deed(labels, deed, out)?;
-    out.put(separator_of(reason))?;
-    out.put(reason)?;
+    write_front(step.core, step.outcome, step.deed.eip, out)?;
+    write_deed(labels, step.deed, out)?;
+    out.put(separator_of(step.reason))?;
+    out.put(step.reason)?;
     Ok(())
 }

@@ -34,6 +34,15 @@ use tm_core::Machine;
 use tm_hist::write_outcome;
 use tm_model::{Outcome, Pick};
 
+// What is asked for.
+#[derive(Clone, Copy)]
+struct Asked<'a> {
+    alloc: Global,
+    options: &'a RunOptions<'a>,
+    // Whether a reason names code where the subset ends.
+    names: bool,
+}
+
 /// Runs a schedule of core steps, and prints the outcomes where they are asked for, with their instructions, the
 /// reasons of the aborts where these are, the state, and what is asked for of memory; and where it is expected that all
 /// cores stop, those that did not: as lines, or as one object (docs/JSON.md, "run"), which has no reasons. `names` says
@@ -62,26 +71,29 @@ pub fn run<P: Paths, O: Out + Drop, G: Progress>(
     if options.is_json {
         run_object(alloc, options, paths, out, progress)
     } else {
-        run_lines(alloc, options, names, paths, out, progress)
+        let asked = Asked {
+            alloc,
+            options: &*options,
+            names,
+        };
+        run_lines(asked, paths, out, progress)
     }
 }
 
 // What [`run`] does, as lines.
 fn run_lines<P: Paths, O: Out + Drop, G: Progress>(
-    alloc: Global,
-    options: &RunOptions<'_>,
-    names: bool,
+    asked: Asked<'_>,
     paths: &mut P,
     out: O,
     progress: &mut G,
 ) -> Result<(Ending, O), Refusal>
-    ensures printed { IfOk result (λ r. IsPrinted (P.content paths.old) (P.content paths.new) options.now r.0
-        (O.device out).contents (O.device r.1).contents) }
-    ensures refused { IfErr result (IsRefused (P.content paths.old) (P.are_one paths.old) options.now) }
+    ensures printed { IfOk result (λ r. IsPrinted (P.content paths.old) (P.content paths.new)
+        asked.entry.options.now r.0 (O.device out).contents (O.device r.1).contents) }
+    ensures refused { IfErr result (IsRefused (P.content paths.old) (P.are_one paths.old) asked.entry.options.now) }
 {
     let page = Gathered::new(out);
-    let (setup, machine, page) = run_steps(alloc, options, names, paths, page, progress)?;
-    let told = tell(&machine, &setup, options, page);
+    let (setup, machine, page) = run_steps(asked, paths, page, progress)?;
+    let told = tell(&machine, &setup, asked.options, page);
     drop(machine);
     drop(setup);
     told
@@ -89,17 +101,21 @@ fn run_lines<P: Paths, O: Out + Drop, G: Progress>(
 
 // Makes a run's steps, and prints what is asked for of each.
 fn run_steps<P: Paths, O: Out + Drop, G: Progress>(
-    alloc: Global,
-    options: &RunOptions<'_>,
-    names: bool,
+    asked: Asked<'_>,
     paths: &mut P,
     page: Gathered<O>,
     progress: &mut G,
 ) -> Result<(Setup, Machine, Gathered<O>), Refusal>
-    ensures made { IfOk result (λ r. IsRunAsAsked (P.content paths.old) (P.content paths.new) options.now r.0 r.1
+    ensures made { IfOk result (λ r. IsRunAsAsked (P.content paths.old) (P.content paths.new)
+        asked.entry.options.now r.0 r.1
         (⟦<Gathered<O> as Out>⟧.device page).contents (⟦<Gathered<O> as Out>⟧.device r.2).contents) }
-    ensures refused { IfErr result (IsRefused (P.content paths.old) (P.are_one paths.old) options.now) }
+    ensures refused { IfErr result (IsRefused (P.content paths.old) (P.are_one paths.old) asked.entry.options.now) }
 {
+    let Asked {
+        alloc,
+        options,
+        names,
+    } = asked;
     let path = record_path(options.record, options.machine.file, paths)?;
     let opened = Opened::read(
         alloc,

@@ -16,6 +16,6 @@ mod words;
 pub use escapes::{Mark, put_escaped};
 pub use laws::{no_control_is_written, words_read_back};
 pub use machine::{put_machine, put_option};
-pub use schedule::put_schedule;
+pub use schedule::{MOST_SHOWN, put_schedule};
 pub use step::{StepWord, step_word};
 pub use words::{put_path, put_word};

@@ -12,7 +12,7 @@ use text_out::{Failed, Out};
 use tm_model::Pick;
 
 /// The most steps of a schedule that is printed in a command line.
-const MOST_SHOWN: usize = 1000;
+pub const MOST_SHOWN: usize = 1000;
 
 /// Writes the option that says a schedule, behind a space: its file, where it was recorded, and else its steps. Those
 /// of more than 1,000 steps are told by the words that say how it is recorded.

@@ -32,5 +32,6 @@ fn letter_of(event: Option<Event>) -> &'static str
         Some(Event::Abort(Interference::Interrupt)) => "i",
         Some(Event::Abort(Interference::Eviction)) => "e",
         Some(Event::Abort(Interference::Snoop)) => "s",
+        Some(Event::Drain) => "d",
     }
 }

@@ -1,13 +1,14 @@
 -- What is counted of a run (docs/FORMATS.md, "Statistics"): each step that was made, as the machine stood before it.
-use Rattle.std.specs.Prelude.{◌≡◌, ℕ, ◌<◌, ◌^◌, Bool, true, false, List, [], ◌∷◌, IfSome, length}
+use Rattle.std.specs.Prelude.{◌≡◌, ℕ, ◌<◌, ◌^◌, Bool, true, false, List, [], ◌∷◌, Option, IfSome, length}
 use Rattle.std.specs.FinSet as set
 use Rattle.elide_setup.specs.Runs.{IsMachineStep, IsRunOf}
 use Rattle.elide_setup.specs.Schedules.{AreOf, picks_made}
 use Rattle.tm_core.specs.Theorem.{ShownMachine as Machine, StandsFor, machine_setting, view_at}
-use Rattle.tm_model.specs.State.{State}
+use Rattle.tm_model.specs.State.{State, seen_by}
 use Rattle.tm_model.specs.Conflicts.{Doomed}
 use Rattle.tm_model.specs.Explained.{abort_reason}
 use Rattle.tm_model.specs.Runs.{picks_of}
+use Rattle.tm_model.specs.declared.explain.AbortReason.{AbortReason}
 use Rattle.tm_model.specs.declared.outcome.CoreState.{CoreState}
 use Rattle.tm_model.specs.declared.outcome.CoreState.TheVariants as mode
 use Rattle.tm_model.specs.declared.outcome.Outcome.{Outcome}
@@ -29,11 +30,17 @@ is_inside (mode.Open depth) = true
 is_inside (mode.Condemned depth) = true
 is_inside (mode.Stopped why) = false
 
+-- why the next step of a core is an abort, where it is one
+abbrev pub IsReason : Machine → ℕ → Option AbortReason → Type 0
+IsReason machine core reason =
+    (state : State) (doomed : Doomed) → StandsFor machine state doomed →
+    reason ≡ abort_reason (machine_setting machine) (seen_by state core) (state.cores core) (doomed core)
+
 -- this is the cause of the abort that the next step of a core in a transaction is, where it is one
 abbrev pub IsCause : Machine → ℕ → AbortCause → Type 0
 IsCause machine core cause =
     is_inside (view_at machine core).mode ≡ true → (state : State) (doomed : Doomed) → StandsFor machine state doomed →
-    IfSome (abort_reason (machine_setting machine) state.memory (state.cores core) (doomed core))
+    IfSome (abort_reason (machine_setting machine) (seen_by state core) (state.cores core) (doomed core))
     (λ reason. cause ≡ cause_for reason)
 
 -- what is told of the next step of a core: its place is the EIP of its registers before its open transaction, that of

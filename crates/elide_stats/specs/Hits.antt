@@ -2,7 +2,7 @@
 use Rattle.std.specs.Prelude.{◌≡◌, ℕ, Bool, true, false, List, []}
 use Rattle.tm_core.specs.Theorem.{ShownMachine as Machine, view_at}
 use Rattle.tm_model.specs.declared.outcome.Outcome.{Outcome}
-use Rattle.tm_model.specs.declared.outcome.Outcome.TheVariants.{AbortedBy}
+use Rattle.tm_model.specs.declared.outcome.Outcome.TheVariants.{AbortedBy, Drained}
 use Rattle.tm_sets.specs.declared.interface.Kind.{Kind}
 use Rattle.tm_sets.specs.declared.interface.Kind.TheVariants.{Read, Write}
 use Rattle.tm_stats.specs.declared.conflicts.Conflict.{Conflict}
@@ -19,7 +19,8 @@ pub record IsConflict (machine : Machine) (instruction number on : ℕ) (kind : 
   pub victim : conflict.victim ≡ (view_at machine number).base.eip
   pub stores : conflict.stores ≡ is_store kind
 
--- the hits that a step has made: none, where an abort from outside came in its place
+-- the hits that a step has made: none, where an abort from outside or a drain came in its place
 abbrev pub hits_made : Outcome → List (ℕ × Conflict) → List (ℕ × Conflict)
 hits_made (AbortedBy by status) hits = []
+hits_made Drained hits = []
 hits_made outcome hits = hits

@@ -1,18 +1,17 @@
 //! What is asked of a machine before a step: the place, the cause and the lines of the core's transaction.
 //!
 //! [`Asked::before`] comes before the step, which may end that transaction; [`Asked::step`] adds the outcome behind it.
-//! A core that is not there has nothing, since its step is refused anyway; where a step does not abort, its cause
-//! stands for nothing. Whom a step hits is asked in `hits`.
+//! Why the step is an abort is known from its preview; where it is none, its cause stands for nothing. Whom a step hits
+//! is asked in `hits`.
 
-ghost use Rattle.std.specs.Prelude.{◌≡◌};
-ghost use Rattle.std.specs.FinSet as set;
+ghost use Rattle.std.specs.Prelude.{◌≡◌, ◌<◌, IfSome, length};
 ghost use Rattle.tm_core.specs.Theorem.{ShownMachine, view_at};
 ghost use Rattle.elide_stats.specs.Causes.{cause_for, cause_for_stop};
-ghost use Rattle.elide_stats.specs.Counted.{IsAskedOf, IsCause, IsStep, is_inside};
+ghost use Rattle.elide_stats.specs.Counted.{IsAskedOf, IsReason, IsStep};
 ghost use Rattle.elide_stats.specs.Hits.{IsConflict, is_store};
 
 use tm_core::Machine;
-use tm_model::{AbortReason, CoreState, Counts, Outcome};
+use tm_model::{AbortReason, Counts, Outcome};
 use tm_rule::Stop;
 use tm_sets::Kind;
 use tm_stats::{AbortCause, Conflict, Step};
@@ -29,14 +28,16 @@ pub struct Asked {
 }
 
 impl Asked {
-    /// Asks a machine before a step of a core.
-    pub fn before(machine: &Machine, core: u8) -> Asked
+    /// Asks a machine before a step of a core, which is an abort for this reason, where it is one.
+    pub fn before(machine: &Machine, core: u8, reason: Option<AbortReason>) -> Asked
+        requires core { core < length machine.now.views }
+        requires reason { IsReason machine.now core reason }
         ensures { IsAskedOf machine.now core result }
     {
         Asked {
             place: place_of(machine, core),
-            cause: cause_of(machine, core),
-            lines: lines_of(machine, core),
+            cause: cause_of(reason),
+            lines: machine.counts(core).unwrap(),
         }
     }
 
@@ -57,49 +58,20 @@ impl Asked {
 
 // The EIP of a core before its open transaction, or now, where it has none.
 fn place_of(machine: &Machine, core: u8) -> u32
+    requires { core < length machine.now.views }
     ensures { result ≡ (view_at machine.now core).base.eip }
 {
-    match machine.base_regs(core) {
-        Ok(regs) => regs.eip,
-        Err(_) => 0,
-    }
+    machine.base_regs(core).unwrap().eip
 }
 
-// How many lines a core has in its sets.
-fn lines_of(machine: &Machine, core: u8) -> Counts
-    ensures reads { result.reads ≡ set.len (view_at machine.now core).reads }
-    ensures writes { result.writes ≡ set.len (view_at machine.now core).writes }
+// The cause of a step that is an abort for this reason. Any, where it is none.
+fn cause_of(reason: Option<AbortReason>) -> AbortCause
+    ensures { IfSome reason (λ reason. result ≡ cause_for reason) }
 {
-    match machine.counts(core) {
-        Ok(lines) => lines,
-        Err(_) => Counts {
-            reads: 0,
-            writes: 0,
-        },
+    match reason {
+        Some(reason) => cause_for(reason),
+        None => AbortCause::Conflict,
     }
-}
-
-// Why the next step of a core aborts of its own. Any cause, where it does not.
-fn cause_of(machine: &Machine, core: u8) -> AbortCause
-    ensures { IsCause machine.now core result }
-{
-    if !is_inside(machine, core) {
-        return AbortCause::Conflict;
-    }
-    match machine.abort_reason(core) {
-        Ok(Some(reason)) => cause_for(reason),
-        _ => AbortCause::Conflict,
-    }
-}
-
-// Whether a core is in a transaction.
-fn is_inside(machine: &Machine, core: u8) -> bool
-    ensures { result ≡ is_inside (view_at machine.now core).mode }
-{
-    matches!(
-        machine.state(core),
-        Ok(CoreState::Open(_) | CoreState::Condemned(_))
-    )
 }
 
 // The cause that a reason is counted as.
@@ -137,6 +109,7 @@ fn cause_for_stop(stop: Stop) -> AbortCause
 /// How a step of the instruction at this address hits the open transaction of another core on a line; on which bytes is
 /// told of once it was made.
 pub fn conflict_of(machine: &Machine, by: u32, victim: u8, line: u32, kind: Kind) -> Conflict
+    requires { victim < length machine.now.views }
     ensures { IsConflict machine.now by victim line kind result }
 {
     Conflict {

@@ -4,8 +4,7 @@
 //! hits. It only prints: the rows and their order are `report`'s. Columns part at spaces, so that no name has one:
 //! `labels` sees to that. As JSON a report is `json`'s.
 
-ghost use Rattle.std.specs.Prelude.{◌≡◌, ◌++◌, ℕ, List, OnOk};
-ghost use Rattle.std.specs.Fmt.{decimal};
+ghost use Rattle.std.specs.Prelude.{◌≡◌, ℕ, List, OnOk};
 ghost use Rattle.std.specs.List.{flat_map};
 ghost use Rattle.text_out.specs.Writing.{Wrote};
 ghost use Rattle.elide_stats.specs.Columns.{columns_text, conflicts_text, counts_text, ending, inner_text, numbered};
@@ -46,7 +45,7 @@ fn put_conflicts<O: Out>(report: &Report, out: &mut O) -> Result<(), Failed>
 }
 
 // A row of the report.
-trait Row {
+trait PutRow {
     ghost text: { Self → List ℕ };
 
     // Puts it as a line.
@@ -54,7 +53,7 @@ trait Row {
         ensures { OnOk result (Wrote (O.device out.old) (O.device out.new) (text self.now)) };
 }
 
-fn put_rows<R: Row, O: Out>(rows: &[R], out: &mut O) -> Result<(), Failed>
+fn put_rows<R: PutRow, O: Out>(rows: &[R], out: &mut O) -> Result<(), Failed>
     ensures { OnOk result (Wrote (O.device out.old) (O.device out.new) (flat_map R.text rows.now)) }
 {
     for row in rows {
@@ -90,7 +89,7 @@ fn put_last<O: Out>(word: &str, out: &mut O) -> Result<(), Failed>
     Ok(())
 }
 
-impl Row for StepsRow {
+impl PutRow for StepsRow {
     ghost text = { steps_text };
 
     fn put<O: Out>(&self, out: &mut O) -> Result<(), Failed> {
@@ -115,7 +114,7 @@ impl StepsRow {
     }
 }
 
-impl Row for PlaceRow {
+impl PutRow for PlaceRow {
     ghost text = { place_text };
 
     fn put<O: Out>(&self, out: &mut O) -> Result<(), Failed> {
@@ -139,7 +138,7 @@ impl PlaceRow {
     }
 }
 
-impl Row for AbortRow {
+impl PutRow for AbortRow {
     ghost text = { abort_text };
 
     fn put<O: Out>(&self, out: &mut O) -> Result<(), Failed> {
@@ -151,7 +150,7 @@ impl Row for AbortRow {
     }
 }
 
-impl Row for SizeRow {
+impl PutRow for SizeRow {
     ghost text = { size_text };
 
     fn put<O: Out>(&self, out: &mut O) -> Result<(), Failed> {
@@ -175,7 +174,7 @@ impl SizeRow {
     }
 }
 
-impl Row for LineRow {
+impl PutRow for LineRow {
     ghost text = { line_text };
 
     fn put<O: Out>(&self, out: &mut O) -> Result<(), Failed> {
@@ -186,7 +185,7 @@ impl Row for LineRow {
     }
 }
 
-impl Row for HitRow {
+impl PutRow for HitRow {
     ghost text = { hit_text };
 
     fn put<O: Out>(&self, out: &mut O) -> Result<(), Failed> {

@@ -20,7 +20,7 @@ ghost use Rattle.tm_model.specs.declared.outcome.Pick.{Pick};
 ghost use Rattle.tm_stats.specs.Counts.{AreCounts};
 ghost use Rattle.elide_stats.specs.Refused.{AreOfOptions, IsNoCount, IsNotCounted, IsRefused};
 
-use crate::counting::Counting;
+use crate::counting::{Counting, Recorded};
 use crate::told::{CountedRun, Form, tell_counting};
 use elide_args::StatsOptions;
 use elide_device::Progress;
@@ -38,6 +38,13 @@ struct Asked<'a> {
     settings: Settings<'a>,
     // Where the schedule that came about is written.
     path: Option<&'a str>,
+}
+
+// The same with the plan of the schedule, which is spent where the schedule is read.
+#[derive(Drop)]
+struct Job<'a> {
+    asked: &'a Asked<'a>,
+    plan: Plan<'a>,
 }
 
 // A program that is to run, and its schedule.
@@ -71,51 +78,55 @@ pub fn stats<P: Paths, O: Out, G: Progress>(
         settings,
         path,
     };
-    stats_of_path(plan, &asked, paths, out, progress)
+    let job = Job {
+        asked: &asked,
+        plan,
+    };
+    stats_of_path(job, paths, out, progress)
 }
 
 // What [`stats`] does once the options are read. What is made in one of these functions is lent to the next, so that
 // each has little to drop.
 fn stats_of_path<P: Paths, O: Out, G: Progress>(
-    plan: Plan<'_>,
-    asked: &Asked<'_>,
+    job: Job<'_>,
     paths: &mut P,
     out: &mut O,
     progress: &mut G,
 ) -> Result<(), Refusal>
-    requires { AreOfOptions asked.now plan }
+    requires { AreOfOptions job.asked.now job.plan }
     ensures ran { OnOk result ((file : ProgramFile) × (given : List ℕ → Option (List ℕ))
-        × IsRead (P.content paths.old asked.now.options.now.machine.file.now) file
+        × IsRead (P.content paths.old job.entry.asked.now.options.now.machine.file.now) file
         × ((other : List ℕ) → given other ≡ P.content paths.old other)
-        × HasRunPlan given (P.content paths.new) file asked.now.settings plan.entry asked.now.path) }
+        × HasRunPlan given (P.content paths.new) file job.entry.asked.now.settings job.entry.plan
+        job.entry.asked.now.path) }
     ensures refused { (content : List ℕ → Option (List ℕ))
         → ((other : List ℕ) → P.content paths.old other ≡ content other)
-        → IfErr result (IsNotCounted content asked.now.options.now) }
+        → IfErr result (IsNotCounted content job.entry.asked.now.options.now) }
 {
-    let options = asked.options;
+    let options = job.asked.options;
     let text = read_file(options.machine.file, paths)?;
-    stats_of_text(text.as_slice(), plan, asked, paths, out, progress)
+    stats_of_text(text.as_slice(), job, paths, out, progress)
 }
 
 // What [`stats_of_path`] does once FILE is read, of its text.
 fn stats_of_text<P: Paths, O: Out, G: Progress>(
     text: &[u8],
-    plan: Plan<'_>,
-    asked: &Asked<'_>,
+    job: Job<'_>,
     paths: &mut P,
     out: &mut O,
     progress: &mut G,
 ) -> Result<(), Refusal>
-    requires { AreOfOptions asked.now plan }
+    requires { AreOfOptions job.asked.now job.plan }
     ensures ran { OnOk result ((file : ProgramFile) × IsFile text.now file
-        × HasRunPlan (P.content paths.old) (P.content paths.new) file asked.now.settings plan.entry asked.now.path) }
+        × HasRunPlan (P.content paths.old) (P.content paths.new) file job.entry.asked.now.settings job.entry.plan
+        job.entry.asked.now.path) }
     ensures refused { (content : List ℕ → Option (List ℕ))
         → ((other : List ℕ) → P.content paths.old other ≡ content other)
-        → Gives (content asked.now.options.now.machine.file.now) most_bytes text.now
-        → IfErr result (IsNotCounted content asked.now.options.now) }
+        → Gives (content job.entry.asked.now.options.now.machine.file.now) most_bytes text.now
+        → IfErr result (IsNotCounted content job.entry.asked.now.options.now) }
 {
-    let file = ProgramFile::read(asked.alloc, text)?;
-    let told = stats_of_file(&file, plan, asked, paths, out, progress);
+    let file = ProgramFile::read(job.asked.alloc, text)?;
+    let told = stats_of_file(&file, job, paths, out, progress);
     drop(file);
     told
 }
@@ -123,20 +134,20 @@ fn stats_of_text<P: Paths, O: Out, G: Progress>(
 // What [`stats_of_text`] does once the text is read as a program.
 fn stats_of_file<P: Paths, O: Out, G: Progress>(
     file: &ProgramFile<'_>,
-    plan: Plan<'_>,
-    asked: &Asked<'_>,
+    job: Job<'_>,
     paths: &mut P,
     out: &mut O,
     progress: &mut G,
 ) -> Result<(), Refusal>
-    requires { AreOfOptions asked.now plan }
-    ensures ran { OnOk result (HasRunPlan (P.content paths.old) (P.content paths.new) file.now asked.now.settings
-        plan.entry asked.now.path) }
+    requires { AreOfOptions job.asked.now job.plan }
+    ensures ran { OnOk result (HasRunPlan (P.content paths.old) (P.content paths.new) file.now
+        job.entry.asked.now.settings job.entry.plan job.entry.asked.now.path) }
     ensures refused { (content : List ℕ → Option (List ℕ))
         → ((other : List ℕ) → P.content paths.old other ≡ content other)
-        → IsRead (content asked.now.options.now.machine.file.now) file.now
-        → IfErr result (IsNotCounted content asked.now.options.now) }
+        → IsRead (content job.entry.asked.now.options.now.machine.file.now) file.now
+        → IfErr result (IsNotCounted content job.entry.asked.now.options.now) }
 {
+    let Job { asked, plan } = job;
     let (setup, course) = planned(asked.alloc, &asked.settings, plan, file, paths)?;
     let ready = Ready {
         asked,
@@ -187,7 +198,11 @@ fn stats_of_course<P: Paths, O: Out, G: Progress>(
         (schedule_made ready.entry.course.now (picks_told made))) }
 {
     let asked = ready.asked;
-    counting.run_course(asked.alloc, ready.course, asked.path, paths, progress)?;
+    let recorded = Recorded {
+        course: ready.course,
+        path: asked.path,
+    };
+    counting.run_course(asked.alloc, recorded, paths, progress)?;
     let form = Form {
         alloc: asked.alloc,
         file: ready.file,

@@ -1,9 +1,9 @@
 //! A run whose steps are counted, each behind its making.
 //!
-//! [`Counting`] asks the machine before a step what is gone behind it, makes the step, counts first whom it hit, and
-//! then the step itself. A step that is refused is not counted. [`Counting::run_course`] asks for the schedule's cores
-//! before the first step; [`Counting::run_history`] makes those of a board. [`Counting::sort`] is to come before a
-//! report.
+//! [`Counting`] asks the machine before a step what is gone behind it, of one preview; makes the step, counts first
+//! whom it hit, and then the step itself. A step that is refused is not counted. [`Counting::run_course`] asks for the
+//! schedule's cores before the first step; [`Counting::run_history`] makes those of a board. [`Counting::sort`] is to
+//! come before a report.
 
 ghost use Rattle.std.specs.Prelude.{◌≡◌, [], IfErr, IfOk, List, length};
 ghost use Rattle.elide_setup.specs.Recorded.{IsRecorded};
@@ -23,15 +23,12 @@ use crate::asked::Asked;
 use crate::hits::{CoreBytes, Hits};
 use elide_device::Progress;
 use elide_program::Paths;
-use elide_setup::{Course, Fault, Refusal, StepMaker};
+use elide_setup::{Course, Fault, PORTION, Refusal, StepMaker};
 use std::alloc::{AllocError, Global};
 use tm_core::{Machine, RunFault};
 use tm_hist::Board;
 use tm_model::{Outcome, Pick};
 use tm_stats::{AbortCause, Conflicts, RunCounts};
-
-/// After how many steps of a history it is told how far the counting is.
-const PORTION: u64 = 65536;
 
 /// A machine, with the counts of the steps that it made.
 #[derive(Drop)]
@@ -40,6 +37,13 @@ pub struct Counting {
     counts: RunCounts,
     conflicts: Conflicts,
     bytes: CoreBytes,
+}
+
+/// A schedule, and where it is written, where there is a path.
+#[derive(Clone, Copy)]
+pub struct Recorded<'a> {
+    pub course: &'a Course,
+    pub path: Option<&'a str>,
 }
 
 impl StepMaker for Counting {
@@ -51,9 +55,12 @@ impl StepMaker for Counting {
     // Makes a step, and counts it with the transactions that it hits.
     fn make_step(&mut self, pick: Pick) -> Result<Outcome, Refusal> {
         let core = pick.core;
-        // Both before the step: behind it the transactions are gone that it ends or hits.
-        let asked = Asked::before(&self.machine, core);
-        let hits = Hits::before(&self.machine, core);
+        // Before the step: behind it the transactions are gone that it ends or hits.
+        let Ok(preview) = self.machine.preview(core) else {
+            return Err(Refusal::Fault(Fault::Run(RunFault::NoSuchCore)));
+        };
+        let asked = Asked::before(&self.machine, core, preview.reason);
+        let hits = Hits::before(&self.machine, &preview);
         let outcome = self.machine.make_step(pick)?;
         count_hits(&mut self.conflicts, &mut self.bytes, core, &hits, outcome)?;
         match self.counts.note(asked.step(core, outcome)) {
@@ -85,17 +92,20 @@ impl Counting {
     pub fn run_course<P: Paths, G: Progress>(
         &mut self,
         alloc: Global,
-        course: &Course,
-        path: Option<&str>,
+        recorded: Recorded<'_>,
         paths: &mut P,
         progress: &mut G,
     ) -> Result<(), Refusal>
-        ensures refused { IfErr result (IsUncounted course.now (length self.old.machine.views) path.entry) }
-        ensures ran { IfOk result (λ _. (made : List (Pick × Outcome)) × AreOf course.now (picks_made made)
+        ensures refused { IfErr result
+            (IsUncounted recorded.entry.course.now (length self.old.machine.views) recorded.entry.path) }
+        ensures ran { IfOk result (λ _. (made : List (Pick × Outcome))
+            × AreOf recorded.entry.course.now (picks_made made)
             × Leads AreMachineSteps self.old.machine made self.new.machine
             × GoOn ⟦<AbortCause as PartialEq>⟧.eq self.old made self.new
-            × IsRecorded (P.content paths.new) path.entry (schedule_made course.now (picks_told made))) }
+            × IsRecorded (P.content paths.new) recorded.entry.path
+            (schedule_made recorded.entry.course.now (picks_told made))) }
     {
+        let Recorded { course, path } = recorded;
         let cores = self.machine.cores();
         course.check_cores(cores)?;
         course.walk_recorded(alloc, cores, path, self, paths, progress)
@@ -114,7 +124,7 @@ impl Counting {
     {
         let steps = board.made();
         for index in 0..steps {
-            if index % PORTION == 0 {
+            if index % PORTION as u64 == 0 {
                 progress.tell(index, steps, "steps");
             }
             // The machine has the core of each step: only memory can be wanting.

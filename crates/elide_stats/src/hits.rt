@@ -5,22 +5,18 @@
 //! on a byte. Which steps hit is the machine's to say; counts are `tm_stats`'s.
 
 ghost use Rattle.std.specs.Prelude.{◌≡◌};
+ghost use Rattle.tm_core.specs.Previewed.{IsPreview};
 ghost use Rattle.elide_stats.specs.Hits.{hits_made};
 
 use crate::asked::conflict_of;
 use arrayvec::ArrayVec;
 use std::alloc::{AllocError, Global};
-use tm_core::Machine;
+use tm_core::{Machine, Preview};
 use tm_model::{Outcome, Reach};
 use tm_stats::{ByteStep, Conflict, OpenBytes};
 
 /// The most cores of a machine.
 const MOST_CORES: usize = 64;
-
-const NO_BYTES: Reach = Reach {
-    load: None,
-    store: None,
-};
 
 /// The transactions of other cores that the next step of a core hits, and the bytes that it reaches.
 #[derive(Drop)]
@@ -31,18 +27,14 @@ pub struct Hits {
 }
 
 impl Hits {
-    /// Asks a machine before a step of a core: once, and of the hits where it may hit anybody.
-    pub fn before(machine: &Machine, core: u8) -> Hits {
+    /// Asks a machine before the previewed step: of the hits where it may hit anybody.
+    pub fn before(machine: &Machine, preview: &Preview) -> Hits
+        requires { IsPreview machine.now preview.now }
+    {
         let mut conflicts = ArrayVec::new();
-        let Ok(preview) = machine.preview(core) else {
-            return Hits {
-                conflicts,
-                reach: NO_BYTES,
-            };
-        };
-        if machine.may_hit(&preview) {
+        if machine.may_hit(preview) {
             for victim in 0..machine.cores() {
-                if let Ok(Some(hit)) = machine.hit_by(&preview, victim) {
+                if let Some(hit) = machine.hit_by(preview, victim).unwrap() {
                     let conflict = conflict_of(machine, preview.eip, victim, hit.line, hit.kind);
                     // There is room for one of each core.
                     let _ = conflicts.try_push((victim, conflict));
@@ -56,12 +48,12 @@ impl Hits {
     }
 
     /// Each hit, with the core whose transaction it is, once the outcome is known: a step in whose place an abort from
-    /// outside came was not made, and hits nobody.
+    /// outside or a drain came was not made, and hits nobody.
     pub fn conflicts_by(&self, outcome: Outcome) -> &[(u8, Conflict)]
         ensures { result.now ≡ hits_made outcome self.now.conflicts.items }
     {
         match outcome {
-            Outcome::AbortedBy(_, _) => &[],
+            Outcome::AbortedBy(_, _) | Outcome::Drained => &[],
             _ => self.conflicts.as_slice(),
         }
     }

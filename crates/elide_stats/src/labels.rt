@@ -1,17 +1,14 @@
 //! What places and lines of memory are called.
 //!
-//! [`Labels::of_file`] takes the symbols once, in their order, and leaves out those that stand below the image or past
-//! its end, of an executable past all memory; [`Labels::place`] and [`Labels::line`] then look for the nearest, of
-//! several at one address for the last. A dash is told where there is none. In which form names are told is said at the
-//! start, as JSON escapes them itself and columns do not.
+//! [`Labels::of_file`] takes the symbols once, in their order, those alone that can stand in the program's memory, as
+//! `elide_places` says; [`Labels::place`] and [`Labels::line`] then look for the nearest, of several at one address for
+//! the last. A dash is told where there is none. In which form names are told is said at the start, as JSON escapes them
+//! itself and columns do not.
 
-use elide_places::{Naming, symbols_of};
+use elide_places::{Naming, placed_symbols};
 use elide_program::ProgramFile;
 use std::alloc::{AllocError, Global};
 use symbols::{Symbol, last_nearest};
-
-// The most bytes of memory that a machine has.
-const MOST_MEMORY: u32 = 268_435_456;
 
 /// The symbols of a source or of an executable, by their addresses: of a source those in its image and at its end, of
 /// an executable those from its first byte on. An image text has none.
@@ -31,13 +28,9 @@ impl Labels {
         file: &ProgramFile<'_>,
         naming: Naming,
     ) -> Result<Labels, AllocError> {
-        let mut symbols = symbols_of(alloc, file)?;
-        let first = file.base();
-        let end = end_of(file);
-        symbols.retain(|symbol| first <= symbol.value() && symbol.value() < end);
         Ok(Labels {
-            symbols,
-            code_end: first.saturating_add(file.code_len()),
+            symbols: placed_symbols(alloc, file)?,
+            code_end: file.base().saturating_add(file.code_len()),
             naming,
         })
     }
@@ -93,17 +86,5 @@ impl Labels {
     fn push_name(&self, text: &mut String, symbol: &Symbol) -> Result<(), AllocError> {
         let name = self.naming.name_of(symbol);
         text.push_str(str::from_utf8(name).unwrap_or(""))
-    }
-}
-
-// The address behind the last symbol that is told. A label of a source can stand at its image's end, and a symbol of an
-// executable anywhere in memory.
-fn end_of(file: &ProgramFile<'_>) -> u32 {
-    match file {
-        ProgramFile::Elf(_) => MOST_MEMORY,
-        _ => {
-            let size = file.bytes().len().min(MOST_MEMORY as usize) as u32;
-            file.base().saturating_add(size).saturating_add(1)
-        }
     }
 }

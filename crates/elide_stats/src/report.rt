@@ -4,12 +4,13 @@
 //! summed here. It prints nothing and makes no step. Addresses and names are texts from here on, so that all that takes
 //! memory is done before a line is printed in columns.
 
-ghost use Rattle.std.specs.Prelude.{◌≡◌, ◌++◌, ◌∷◌, [], IfOk, OnOk, sum, sum_by};
+ghost use Rattle.std.specs.Prelude.{◌≡◌, IfOk, sum, sum_by};
 ghost use Rattle.std.specs.List.{AllZip};
 ghost use Rattle.elide_stats.specs.Rows.{AreStepsOf, IsAbortRow, IsHitRow, IsLineRow, IsPlaceRow, IsSum};
 ghost use Rattle.elide_stats.specs.Rows.{lost_of_place, steps_of_size, use_text};
 
 use crate::labels::Labels;
+use elide_program::add;
 use indexmap::IndexMap;
 use serde::Serialize;
 use std::alloc::{AllocError, Global};
@@ -226,16 +227,6 @@ fn open_steps(under_way: &[u64]) -> u64
         steps = steps.saturating_add(under_way[core]);
     }
     steps
-}
-
-// Adds a row.
-fn add<T: Drop>(rows: &mut Vec<T>, row: T) -> Result<(), AllocError>
-    ensures { OnOk result (rows.new.items ≡ rows.old.items ++ row ∷ []) }
-{
-    match rows.push(row) {
-        Ok(()) => Ok(()),
-        Err(_) => Err(AllocError),
-    }
 }
 
 // An address in eight hexadecimal digits.

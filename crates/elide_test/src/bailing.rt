@@ -13,15 +13,12 @@ ghost use Rattle.elide_test.specs.Tap.{bail_line, bail_text};
 use crate::report::FileReport;
 use crate::stop::Stop;
 use crate::tap::{tell_text, tell_until};
-use arrayvec::ArrayVec;
 use elide_device::Gathered;
 use elide_program::ProgramFault;
 use elide_setup::{Fault, Refusal, push_back, push_front, push_name};
 use ia_image::LoadFault;
+use text_out::text_line::TextLine;
 use text_out::{Out, WriteFault};
-
-// The line that tells a fault.
-type Line = ArrayVec<u8, 160>;
 
 impl From<Stop> for Refusal {
     fn from(stop: Stop) -> Refusal {
@@ -93,7 +90,7 @@ fn tell_fault<O: Out>(fault: Fault, out: &mut O) -> Result<(), WriteFault>
     ensures { OnOk result ((word : List ℕ) × Wrote (O.device out.old) (O.device out.new)
         (fault_front fault ++ word ++ fault_back fault)) }
 {
-    let mut line = Line::new();
+    let mut line = TextLine::new();
     push_front(&mut line, fault);
     push_name(&mut line, fault);
     push_back(&mut line, fault);

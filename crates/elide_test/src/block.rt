@@ -4,7 +4,6 @@
 //! escaped in both forms. The line above it is `tap`'s.
 
 ghost use Rattle.std.specs.Prelude.{◌≡◌, ◌++◌, OnOk, codes, option_map, string_bytes};
-ghost use Rattle.std.specs.Fmt.{decimal};
 ghost use Rattle.std.specs.List.{list_any};
 ghost use Rattle.text_out.specs.TextLine.{line_end};
 ghost use Rattle.text_out.specs.Writing.{Wrote};
@@ -15,7 +14,6 @@ ghost use Rattle.elide_test.specs.Tap.{block_text, difference_text, is_special, 
 use crate::report::{Difference, TestReport};
 use crate::tap::{tell_number, tell_text};
 use elide_shell::{Mark, put_escaped};
-use itoa::Buffer;
 use text_out::{Out, WriteFault};
 
 /// Prints what differed of a test, if it failed.
@@ -44,18 +42,10 @@ fn tell_block<O: Out>(
     out.put(b"\n  expected: ")?;
     tell_scalar(difference.expected.as_str(), out)?;
     out.put(b"\n  came: status ")?;
-    tell_status(status, out)?;
+    tell_number(status as usize, out)?;
     out.put(b"\n")?;
     tell_refusal(refusal, out)?;
     out.put(b"  ...\n")?;
-    Ok(())
-}
-
-fn tell_status<O: Out>(status: u8, out: &mut O) -> Result<(), WriteFault>
-    ensures { OnOk result (Wrote (O.device out.old) (O.device out.new) (decimal status)) }
-{
-    let mut digits = Buffer::new();
-    out.put(digits.format(status).as_bytes())?;
     Ok(())
 }
 

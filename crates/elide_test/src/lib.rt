@@ -18,7 +18,6 @@ mod bailing;
 mod block;
 mod ended;
 mod folder;
-mod jobs;
 mod names;
 mod object;
 mod reading;
@@ -34,7 +33,6 @@ mod words;
 
 pub use ended::Ended;
 pub use folder::{FolderPaths, folder_of};
-pub use jobs::jobs_of;
 pub use names::names_of;
 pub use reading::read;
 pub use report::{Answer, FileReport, TestReport, Trials};

@@ -9,7 +9,7 @@ use crate::reading::read;
 use crate::shared::SharedPaths;
 use crate::stop::Stop;
 use elide_args::TestOptions;
-use elide_program::{Obstacle, ReadFault};
+use elide_program::{Obstacle, ReadFault, add};
 use std::alloc::{AllocError, Global};
 use std::str;
 
@@ -59,7 +59,7 @@ fn push_path<S: SharedPaths>(
     if paths.is_folder(path) {
         return push_folder(alloc, path.trim_end_matches('/'), paths, names);
     }
-    push(String::from_str(alloc, path)?, names)?;
+    add(names, String::from_str(alloc, path)?)?;
     Ok(())
 }
 
@@ -88,12 +88,7 @@ fn push_file<S: SharedPaths>(
     names: &mut Vec<String>,
 ) -> Result<(), AllocError> {
     if !paths.is_folder(path.as_str()) {
-        push(path, names)?;
+        add(names, path)?;
     }
-    Ok(())
-}
-
-fn push(path: String, names: &mut Vec<String>) -> Result<(), AllocError> {
-    names.push(path)?;
     Ok(())
 }

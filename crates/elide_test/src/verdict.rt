@@ -24,11 +24,16 @@ pub fn report_of(alloc: Global, test: &Test<'_>, ended: &Ended) -> Result<TestRe
     let came = CameTo::new(alloc, ended.status, ended.output.as_slice())?;
     let verdict = test.judge(&came);
     drop(came);
-    told(alloc, test, ended, verdict)
+    verdict_report(alloc, test, ended, verdict)
 }
 
 // The report of a verdict.
-fn told(alloc: Global, test: &Test<'_>, ended: &Ended, verdict: Verdict) -> Result<TestReport, Stop>
+fn verdict_report(
+    alloc: Global,
+    test: &Test<'_>,
+    ended: &Ended,
+    verdict: Verdict,
+) -> Result<TestReport, Stop>
     ensures { IfOk result (IsToldOf (test_content test.now) ended.now verdict) }
 {
     let word = first_word(alloc, test)?;

@@ -3,14 +3,15 @@
 //! Bytes that are no UTF-8 make the command's line none of a test. Where words part is read by `elide_expect`; what
 //! they say is read by the command itself, so that a wrong option is a status and no refusal here.
 
-ghost use Rattle.std.specs.Prelude.{◌≡◌, ◌∷◌, ◌++◌, IfOk, OnOk, [], string_bytes};
+ghost use Rattle.std.specs.Prelude.{◌≡◌, IfOk, string_bytes};
 ghost use Rattle.elide_args.specs.Asked.{texts_of};
 ghost use Rattle.elide_expect.specs.Words.{texts};
 ghost use Rattle.elide_test.specs.Tried.{first_of, with_file};
 
 use crate::stop::Stop;
 use elide_expect::Test;
-use std::alloc::{AllocError, Global};
+use elide_program::add_text;
+use std::alloc::Global;
 use std::str;
 
 /// A text; bytes that are none stand on this line.
@@ -42,19 +43,12 @@ fn words_with<'a>(
     let Some((first, rest)) = words.split_first() else {
         return Ok(all);
     };
-    push_word(&mut all, text_of(first.as_slice(), line)?)?;
-    push_word(&mut all, file)?;
+    add_text(&mut all, text_of(first.as_slice(), line)?)?;
+    add_text(&mut all, file)?;
     for word in rest {
-        push_word(&mut all, text_of(word.as_slice(), line)?)?;
+        add_text(&mut all, text_of(word.as_slice(), line)?)?;
     }
     Ok(all)
-}
-
-fn push_word<'a>(words: &mut Vec<&'a str>, word: &'a str) -> Result<(), AllocError>
-    ensures { OnOk result (texts_of words.new.items ≡ texts_of words.old.items ++ word.now ∷ []) }
-{
-    words.push(word)?;
-    Ok(())
 }
 
 /// The first word of a test's command.

@@ -79,17 +79,13 @@ pub fn threads<R: Threads + Wait + Sync + AllocGlobal, P: Paths, O: Out + Drop, 
     }
     let settings = Settings::read(&options.machine)?;
     let work = Work::read(options, names, paths)?;
-    let text = read_file(options.machine.file, paths)?;
-    let end = threads_of_text(
-        rt,
+    let asked = Asked {
         options,
-        &settings,
+        settings,
         work,
-        text.as_slice(),
-        paths,
-        out,
-        progress,
-    );
+    };
+    let text = read_file(options.machine.file, paths)?;
+    let end = threads_of_text(rt, &asked, text.as_slice(), paths, out, progress);
     drop(text);
     end
 }
@@ -137,6 +133,24 @@ impl<'a> Work<'a> {
     }
 }
 
+// What is asked for: the options, and what they say of the machine and of the workers.
+#[derive(Clone, Copy)]
+struct Asked<'a> {
+    options: &'a ThreadsOptions<'a>,
+    settings: Settings<'a>,
+    work: Work<'a>,
+}
+
+// The program that the workers run.
+#[derive(Drop)]
+struct Loaded<'a> {
+    file: ProgramFile<'a>,
+    // By the options.
+    setup: Setup,
+    // What the reasons of aborts name its places by, where they are asked for.
+    places: Option<NamedPlaces>,
+}
+
 // What [`threads`] does once FILE is read, over its text.
 fn threads_of_text<
     R: Threads + Wait + Sync + AllocGlobal,
@@ -145,43 +159,35 @@ fn threads_of_text<
     G: Progress + Send,
 >(
     rt: &R,
-    options: &ThreadsOptions<'_>,
-    settings: &Settings,
-    work: Work<'_>,
+    asked: &Asked<'_>,
     text: &[u8],
     paths: &mut P,
     out: O,
     progress: &mut G,
 ) -> Result<O, Refusal>
     ensures refused { (content : List ℕ → Option (List ℕ)) (are_one : List ℕ → List ℕ → Option Bool) →
-        Gives (content options.now.machine.file.now) most_bytes text.now
-        → AreSettings options.now.machine settings.now →
-        number_said (option_copied options.now.budget) ≡ Some work.entry.budget →
-        plan_said (option_copied options.now.events) (option_copied options.now.seed) ≡ Some work.entry.plan →
-        work.entry.path ≡ options.now.«record» → IfErr result (IsRefused content are_one options.now) }
+        Gives (content asked.now.options.now.machine.file.now) most_bytes text.now
+        → AreSettings asked.now.options.now.machine asked.now.settings →
+        number_said (option_copied asked.now.options.now.budget) ≡ Some asked.now.work.budget →
+        plan_said (option_copied asked.now.options.now.events) (option_copied asked.now.options.now.seed)
+        ≡ Some asked.now.work.plan → asked.now.work.path ≡ asked.now.options.now.«record» →
+        IfErr result (IsRefused content are_one asked.now.options.now) }
     ensures told { IfOk result (λ given. (file : ProgramFile) × (setup : Setup) × (board : Board) × IsFile text.now file
-        × IsSetup file settings.now setup × IsWorked setup work.entry.budget work.entry.plan board
-        × IsTold options.now setup board (O.device out).contents (O.device given).contents
-        × IsRecorded (P.content paths.new) work.entry.path (schedule_text (picks_of board.history))) }
+        × IsSetup file asked.now.settings setup × IsWorked setup asked.now.work.budget asked.now.work.plan board
+        × IsTold asked.now.options.now setup board (O.device out).contents (O.device given).contents
+        × IsRecorded (P.content paths.new) asked.now.work.path (schedule_text (picks_of board.history))) }
 {
     let alloc = rt.alloc();
     let file = ProgramFile::read(alloc, text)?;
-    let setup = Setup::of_file(alloc, settings, &file)?;
-    let places = places_of(alloc, options, work.names, &file, text)?;
-    let end = run_and_tell(
-        rt,
-        options,
-        work,
-        &file,
-        &setup,
-        places.as_ref(),
-        paths,
-        out,
-        progress,
-    );
-    drop(places);
-    drop(setup);
-    drop(file);
+    let setup = Setup::of_file(alloc, &asked.settings, &file)?;
+    let places = places_of(alloc, asked, &file, text)?;
+    let loaded = Loaded {
+        file,
+        setup,
+        places,
+    };
+    let end = run_and_tell(rt, asked, &loaded, paths, out, progress);
+    drop(loaded);
     end
 }
 
@@ -193,31 +199,30 @@ fn run_and_tell<
     G: Progress + Send,
 >(
     rt: &R,
-    options: &ThreadsOptions<'_>,
-    work: Work<'_>,
-    file: &ProgramFile<'_>,
-    setup: &Setup,
-    places: Option<&NamedPlaces>,
+    asked: &Asked<'_>,
+    loaded: &Loaded<'_>,
     paths: &mut P,
     out: O,
     progress: &mut G,
 ) -> Result<O, Refusal>
-    requires { options.now.explains ≡ false → places ≡ None }
-    ensures refused { IfErr result (IsNoWork setup.now work.entry.budget work.entry.plan work.entry.path) }
-    ensures told { IfOk result (λ given. (board : Board) × IsWorked setup.now work.entry.budget work.entry.plan board
-        × IsTold options.now setup.now board (O.device out).contents (O.device given).contents
-        × IsRecorded (P.content paths.new) work.entry.path (schedule_text (picks_of board.history))) }
+    requires { asked.now.options.now.explains ≡ false → loaded.now.places ≡ None }
+    ensures refused { IfErr result
+        (IsNoWork loaded.now.setup asked.now.work.budget asked.now.work.plan asked.now.work.path) }
+    ensures told { IfOk result (λ given. (board : Board)
+        × IsWorked loaded.now.setup asked.now.work.budget asked.now.work.plan board
+        × IsTold asked.now.options.now loaded.now.setup board (O.device out).contents (O.device given).contents
+        × IsRecorded (P.content paths.new) asked.now.work.path (schedule_text (picks_of board.history))) }
 {
     let alloc = rt.alloc();
-    let board = opened(alloc, setup, work.budget)?;
-    let board = recorded(rt, board, work, paths, progress)?;
-    let end = tell_run(alloc, options, file, setup, places, &board, out, progress);
+    let board = open_board(alloc, &loaded.setup, asked.work.budget)?;
+    let board = make_and_record(rt, board, asked.work, paths, progress)?;
+    let end = tell_run(alloc, asked.options, loaded, &board, out, progress);
     drop(board);
     end
 }
 
 // The board after each core made so many steps, and its schedule, written where it is asked for.
-fn recorded<R: Threads + Wait + Sync + AllocGlobal, P: Paths, G: Progress + Send>(
+fn make_and_record<R: Threads + Wait + Sync + AllocGlobal, P: Paths, G: Progress + Send>(
     rt: &R,
     board: Board,
     work: Work<'_>,
@@ -233,7 +238,7 @@ fn recorded<R: Threads + Wait + Sync + AllocGlobal, P: Paths, G: Progress + Send
 {
     // Before the workers: a run that cannot be recorded is not made.
     let record = record_of(rt.alloc(), work.path, &board)?;
-    let board = worked(rt, board, work, progress)?;
+    let board = make_steps(rt, board, work, progress)?;
     record.write(&board, paths)?;
     Ok(board)
 }
@@ -242,18 +247,17 @@ fn recorded<R: Threads + Wait + Sync + AllocGlobal, P: Paths, G: Progress + Send
 fn tell_run<O: Out + Drop, G: Progress>(
     alloc: Global,
     options: &ThreadsOptions<'_>,
-    file: &ProgramFile<'_>,
-    setup: &Setup,
-    places: Option<&NamedPlaces>,
+    loaded: &Loaded<'_>,
     board: &Board,
     out: O,
     progress: &mut G,
 ) -> Result<O, Refusal>
-    requires { options.now.explains ≡ false → places ≡ None }
+    requires { options.now.explains ≡ false → loaded.now.places ≡ None }
     ensures told { IfOk result
-        (λ given. IsTold options.now setup.now board.now (O.device out).contents (O.device given).contents) }
-    ensures refused { IfErr result (IsNotTold setup.now board.now) }
+        (λ given. IsTold options.now loaded.now.setup board.now (O.device out).contents (O.device given).contents) }
+    ensures refused { IfErr result (IsNotTold loaded.now.setup board.now) }
 {
+    let places = loaded.places.as_ref();
     let mut page = Gathered::new(out);
     if let Some(places) = places {
         tell_history(
@@ -266,9 +270,16 @@ fn tell_run<O: Out + Drop, G: Progress>(
         )?;
     }
     if options.counts {
-        tell_counts(alloc, board, file, options.is_json, &mut page, progress)?;
+        tell_counts(
+            alloc,
+            board,
+            &loaded.file,
+            options.is_json,
+            &mut page,
+            progress,
+        )?;
     } else {
-        tell_asked(alloc, options, board, setup, &mut page)?;
+        tell_asked(alloc, options, board, &loaded.setup, &mut page)?;
     }
     Ok(page.finish()?)
 }
@@ -276,16 +287,16 @@ fn tell_run<O: Out + Drop, G: Progress>(
 // The places of the program, where the reasons of the aborts are asked for.
 fn places_of(
     alloc: Global,
-    options: &ThreadsOptions<'_>,
-    names: bool,
+    asked: &Asked<'_>,
     file: &ProgramFile<'_>,
     text: &[u8],
 ) -> Result<Option<NamedPlaces>, Refusal>
-    ensures places { IfOk result (λ places. options.now.explains ≡ false → places ≡ None) }
+    ensures places { IfOk result (λ places. asked.now.options.now.explains ≡ false → places ≡ None) }
     ensures want { IfErr result (λ why. why ≡ want) }
 {
-    if options.explains {
+    if asked.options.explains {
         let places = Places::of_file(alloc, file, text)?;
+        let names = asked.work.names;
         Ok(Some(NamedPlaces { places, names }))
     } else {
         Ok(None)
@@ -359,7 +370,7 @@ fn record_of<'a>(alloc: Global, path: Option<&'a str>, board: &Board) -> Result<
 }
 
 // A board with room for so many steps of each core.
-fn opened(alloc: Global, setup: &Setup, budget: u32) -> Result<Board, Refusal>
+fn open_board(alloc: Global, setup: &Setup, budget: u32) -> Result<Board, Refusal>
     ensures none { IfErr result (IsNoBoard setup.now (length setup.now.program.entries * budget)) }
     ensures made { IfOk result (λ board.
         IsNew setup.now.program setup.now.limits (length setup.now.program.entries * budget) board) }
@@ -369,7 +380,7 @@ fn opened(alloc: Global, setup: &Setup, budget: u32) -> Result<Board, Refusal>
 }
 
 // The board after each core made so many steps on a thread of its own. Their progress is told while they run.
-fn worked<R: Threads + Wait + Sync + AllocGlobal, G: Progress + Send>(
+fn make_steps<R: Threads + Wait + Sync + AllocGlobal, G: Progress + Send>(
     rt: &R,
     board: Board,
     work: Work<'_>,

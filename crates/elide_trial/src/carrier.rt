@@ -10,7 +10,7 @@ ghost use Rattle.elide_args.specs.Asked.{texts_of};
 ghost use Rattle.elide_trial.specs.Came.{CameTo};
 
 use crate::ending::CommandEnd;
-use elide_command::command;
+use elide_command::{Streams, command};
 use elide_device::{Silent, Surroundings};
 use elide_test::{Ended, FolderPaths, SharedPaths};
 use std::alloc::{AllocError, Global};
@@ -27,19 +27,13 @@ pub fn command_end<R: Threads + Wait + Sync + AllocGlobal, S: SharedPaths>(
     files: FolderPaths<'_, S>,
     out: ToVec,
 ) -> CommandEnd {
-    let mut files = files;
-    let mut out = out;
     let mut err = ToVec::new(Vec::new(files.alloc));
-    let status = command(
-        rt,
-        words,
-        &mut files,
-        &mut NoInput,
-        &mut out,
-        &mut err,
-        Surroundings::NONE,
-        &mut Silent,
-    );
+    let mut files = files;
+    let mut input = NoInput;
+    let mut out = out;
+    let mut progress = Silent;
+    let mut streams = Streams::new(&mut files, &mut input, &mut out, &mut err, &mut progress);
+    let status = command(rt, words, &mut streams, Surroundings::NONE);
     CommandEnd {
         status,
         out,

@@ -13,11 +13,11 @@ use crate::bench::try_all;
 use crate::carrier::command_end;
 use crate::ending::CommandEnd;
 use elide_args::{CommandLine, Subcommand, TestOptions, command_line_of};
-use elide_command::{carry_out, end_early, misused, refuse};
+use elide_command::{Streams, carry_out, end_early, misused, refuse};
 use elide_device::{Lent, Progress, Surroundings};
 use elide_program::Paths;
-use elide_setup::Refusal;
-use elide_test::{Answer, FolderPaths, SharedPaths, jobs_of, names_of, tell};
+use elide_setup::{Refusal, jobs_of};
+use elide_test::{Answer, FolderPaths, SharedPaths, names_of, tell};
 use std::sync::Wait;
 use std::thread::Threads;
 use text_out::{Out, ToVec};
@@ -35,23 +35,19 @@ pub fn command<
 >(
     rt: &R,
     words: &[&str],
-    paths: &mut P,
-    input: &mut I,
-    out: &mut O,
-    err: &mut E,
+    streams: &mut Streams<'_, P, I, O, E, G>,
     surroundings: Surroundings,
-    progress: &mut G,
 ) -> u8
     ensures { result ≤ 3 }
 {
-    match command_line_of(rt.alloc(), words, out, err) {
+    match command_line_of(rt.alloc(), words, &mut *streams.out, &mut *streams.err) {
         Ok(line) => match &line.subcommand {
             Subcommand::Test(options) => {
-                carry_out_tests(rt, &line, options, paths, out, err, surroundings)
+                carry_out_tests(rt, &line, options, streams, surroundings)
             }
-            _ => carry_out(rt, &line, paths, input, out, err, surroundings, progress),
+            _ => carry_out(rt, &line, streams, surroundings),
         },
-        Err(end) => end_early(end, surroundings, err),
+        Err(end) => end_early(end, surroundings, &mut *streams.err),
     }
 }
 
@@ -59,38 +55,32 @@ pub fn command<
 fn carry_out_tests<
     R: Threads + Wait + Sync + AllocGlobal,
     P: Paths + SharedPaths + Sync,
+    I,
     O: Out,
     E: Out,
+    G,
 >(
     rt: &R,
     line: &CommandLine<'_>,
     options: &TestOptions<'_>,
-    paths: &mut P,
-    out: &mut O,
-    err: &mut E,
+    streams: &mut Streams<'_, P, I, O, E, G>,
     surroundings: Surroundings,
 ) -> u8
     ensures { result ≤ 3 }
 {
     if let Some(option) = misused(line) {
-        return refuse(
-            rt.alloc(),
-            line,
-            Refusal::Usage(option),
-            paths,
-            surroundings,
-            err,
-        );
+        let refusal = Refusal::Usage(option);
+        return refuse(rt.alloc(), line, refusal, streams, surroundings);
     }
-    match tried(rt, options, &*paths, out) {
+    match try_files(rt, options, &*streams.paths, &mut *streams.out) {
         Ok(Answer::Passes) => 0,
         Ok(Answer::Fails) => 3,
-        Err(refusal) => refuse(rt.alloc(), line, refusal, paths, surroundings, err),
+        Err(refusal) => refuse(rt.alloc(), line, refusal, streams, surroundings),
     }
 }
 
 // Tries files whose commands are command lines of their own, prints what they came to, and answers whether each passed.
-fn tried<R: Threads + Wait + Sync + AllocGlobal, S: SharedPaths + Sync, O: Out>(
+fn try_files<R: Threads + Wait + Sync + AllocGlobal, S: SharedPaths + Sync, O: Out>(
     rt: &R,
     options: &TestOptions<'_>,
     paths: &S,

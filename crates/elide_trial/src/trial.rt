@@ -4,7 +4,7 @@
 //! carried out. FILE of the commands is the file itself, or the one that a `.elide` names on its first line. The first
 //! test that cannot be carried out ends the file; one that fails does not.
 
-ghost use Rattle.std.specs.Prelude.{◌≡◌, ◌∷◌, ◌++◌, [], IfOk, OnOk, map, string_bytes};
+ghost use Rattle.std.specs.Prelude.{◌≡◌, IfOk, map, string_bytes};
 ghost use Rattle.std.specs.List.{AllZip};
 ghost use Rattle.std.specs.Option.{option_copied};
 ghost use Rattle.elide_expect.specs.Tests.{test_content};
@@ -14,11 +14,12 @@ ghost use Rattle.elide_test.specs.Tried.{AreTried, IsTried, WasTried, kind_of, p
 use crate::carrier::carried_out;
 use crate::ending::CommandEnd;
 use elide_expect::{Kind, Test, read_tests};
+use elide_program::add;
 use elide_test::{
     FileReport, FolderPaths, SharedPaths, Stop, TestReport, folder_of, read, report_of, text_of,
     words_of,
 };
-use std::alloc::{AllocError, Global};
+use std::alloc::Global;
 use text_out::ToVec;
 
 /// Carries out the tests of a file.
@@ -93,16 +94,9 @@ fn try_tests<S: SharedPaths, C: Fn(&[&str], FolderPaths<'_, S>, ToVec) -> Comman
     let mut reports = Vec::new(alloc);
     for test in tests {
         let report = try_test(alloc, folder, program, test, paths, call)?;
-        push(&mut reports, report)?;
+        add(&mut reports, report)?;
     }
     Ok(reports)
-}
-
-fn push(reports: &mut Vec<TestReport>, report: TestReport) -> Result<(), AllocError>
-    ensures { OnOk result (reports.new.items ≡ reports.old.items ++ report ∷ []) }
-{
-    reports.push(report)?;
-    Ok(())
 }
 
 // Carries out a test.

@@ -10,13 +10,10 @@ ghost use Rattle.elide_why.specs.Refused.{IsNotRetold};
 use crate::placed::NamedPlaces;
 use crate::teller::Teller;
 use elide_device::Progress;
-use elide_setup::{Refusal, machine_like};
+use elide_setup::{PORTION, Refusal, machine_like};
 use std::alloc::Global;
 use text_out::Out;
 use tm_hist::Board;
-
-/// After how many steps it is told how far the run is.
-const PORTION: u64 = 65536;
 
 /// Makes the steps of a board again on a machine of their own, and prints the line of each abort with its reason.
 pub fn tell_history<O: Out, G: Progress>(
@@ -52,7 +49,7 @@ fn tell_steps<O: Out, G: Progress>(
     let mut teller = teller.naming(places.names);
     let steps = board.made();
     for index in 0..steps {
-        if index % PORTION == 0 {
+        if index % PORTION as u64 == 0 {
             progress.tell(index, steps, "steps");
         }
         // The machine has the core of each step.

@@ -1,15 +1,16 @@
 //! Steps that are made and told: the machine is asked, the step is made, its line is written.
 //!
 //! [`Teller::step`] asks before the step, since the transaction that aborts is gone behind it; a core that the machine
-//! does not have is refused by that. Told is the outcome: an abort from outside comes in place of the step, whatever
-//! its reason would have been. A step that is refused has no line. The texts are those of `lines`, `interference` and
-//! `subset`.
+//! does not have is refused by that. Who tells more of the step asks by [`Teller::ask`], and has it made by
+//! [`Teller::make`]. Told is the outcome: an abort from outside comes in place of the step, whatever its reason would
+//! have been. A step that is refused has no line. The texts are those of `lines`, `interference` and `subset`.
 
-ghost use Rattle.std.specs.Prelude.{ℕ, IfErr, IfOk, List};
-ghost use Rattle.elide_setup.specs.Refused.{IsUnwritten};
+ghost use Rattle.std.specs.Prelude.{◌<◌, ℕ, IfErr, IfOk, List, OnOk, length};
+ghost use Rattle.elide_setup.specs.Refused.{IsNoCore, IsUnwritten};
 ghost use Rattle.elide_setup.specs.Runs.{IsMachineStep};
 ghost use Rattle.elide_why.specs.Refused.{IsUntoldStep};
 ghost use Rattle.text_out.specs.Writing.{Wrote};
+ghost use Rattle.tm_why.specs.Said.{IsReachSaid};
 
 use crate::interference::write_interference;
 use crate::lines::write_abort;
@@ -22,7 +23,7 @@ use ia_image::Program;
 use text_out::Out;
 use tm_core::{Machine, RunFault};
 use tm_hist::write_outcome;
-use tm_model::{Interference, Outcome, Pick};
+use tm_model::{Interference, Outcome, Pick, Reach};
 use tm_rule::Stop;
 use tm_why::{Asked, Reason, Watch};
 
@@ -89,9 +90,35 @@ impl<'a> Teller<'a> {
         ensures told { IfOk result (λ _. (text : List ℕ) × Wrote (O.device out.old) (O.device out.new) text) }
         ensures refused { IfErr result (IsUntoldStep machine.old pick) }
     {
+        self.ask(machine, pick)?;
+        self.make(machine, pick, out)
+    }
+
+    /// Asks a machine of the step of a pick, which is to be made next, and tells which bytes it reaches.
+    #[inline(always)]
+    pub fn ask(&mut self, machine: &Machine, pick: Pick) -> Result<Reach, Refusal>
+        ensures core { OnOk result (pick.core < length machine.now.views) }
+        ensures reach { IfOk result (IsReachSaid machine.now pick.core) }
+        ensures refused { IfErr result (IsNoCore machine.now pick) }
+    {
         if self.asked.anew(machine, pick.core).is_err() {
             return Err(Refusal::Fault(Fault::Run(RunFault::NoSuchCore)));
         }
+        Ok(self.asked.reach)
+    }
+
+    /// Makes the step of a pick, of which the machine was asked, and prints its line. Takes no memory.
+    #[inline(always)]
+    pub fn make<O: Out>(
+        &mut self,
+        machine: &mut Machine,
+        pick: Pick,
+        out: &mut O,
+    ) -> Result<Outcome, Refusal>
+        ensures step { IfOk result (λ outcome. IsMachineStep machine.old pick outcome machine.new) }
+        ensures told { IfOk result (λ _. (text : List ℕ) × Wrote (O.device out.old) (O.device out.new) text) }
+        ensures refused { IfErr result (IsUntoldStep machine.old pick) }
+    {
         // Both before the step: behind it no transaction is left to ask about.
         let reason = self.watch.reason(&self.asked);
         let begun = self.watch.begun(&self.asked);

@@ -5,7 +5,7 @@ use Rattle.elide_draw.proofs.command.draw_plan.Goals as goal
 pub returns : goal.returns
 returns g c =
     let asked = c.args.asked.now in
-    let made = c.in_ok-setup.ensures.loaded in
+    let made = c.in_ok-loaded.ensures.loaded in
     let given = g.P.Paths.content c.load.new.paths in
     let left = g.P.Paths.content c.draw_loaded-drawn.new.paths in
     on_ok_weaker c.draw_loaded-drawn.result

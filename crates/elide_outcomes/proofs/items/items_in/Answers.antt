@@ -17,7 +17,7 @@ loop-word-preserved c =
     let begins = word_of_step _ c.in-Some.word.now _ c.in-Some.ensures.steps in (
       goes_on c.args.file.now c.args.text.now (split_whitespace_rest c.loop-word.word-iterator)
           (split_whitespace_rest c.next.new.self)
-          c.in-Some.word.now c.loop-word.items.items c.add.new.items.items c.in-Some-item_of.item
+          c.in-Some.word.now c.loop-word.items.items _ c.in-Some-item_of.item
           c.loop-word.invariant.0 begins (rw c.in-Some.word-is at c.in-Some-item_of.ensures) c.in_ok-add.ensures,
       goes_wrong c.args.file.now c.args.text.now (split_whitespace_rest c.loop-word.word-iterator)
           (split_whitespace_rest c.next.new.self)

@@ -11,7 +11,7 @@ returns g c =
     let written = g.S.Serializer.written in
     let told = c.args.told.now in
     let cause =
-    sent_equal (codes "cause") string _ (stop_word told.why) _ _ c.cause_word.ensures c.in_ok-send_text.ensures in
+    sent_equal (codes "cause") string _ (stop_word told.why) _ _ c.stop_name.ensures.text c.in_ok-send_text.ensures in
     let steps = sent_equal (codes "schedule") schedule_value _ told.schedule.items _ _
     c.as_slice.ensures.value c.in_ok-send_schedule.ensures in
     on_ok_weaker c.end_map.result (λ ended. (

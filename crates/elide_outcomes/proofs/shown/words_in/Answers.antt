@@ -16,8 +16,8 @@ pub loop-word-preserved : goal.loop-word-preserved
 loop-word-preserved c =
     words_go_on c.args.text.now (split_whitespace_rest c.loop-word.word-iterator)
     (split_whitespace_rest c.next.new.self)
-    c.in-Some.word.now (texts_of c.loop-word.words.items) (texts_of c.add.new.words.items)
-    c.loop-word.invariant (word_of_step _ c.in-Some.word.now _ c.in-Some.ensures.steps) c.in_ok-add.ensures
+    c.in-Some.word.now (texts_of c.loop-word.words.items) (texts_of c.add_text.new.row.items)
+    c.loop-word.invariant (word_of_step _ c.in-Some.word.now _ c.in-Some.ensures.steps) c.in_ok-add_text.ensures
 
 -- no word is left
 pub returns : goal.returns

@@ -5,8 +5,8 @@ use Rattle.elide_run.proofs.coded.write_explained.Goals as goal
 
 pub returns : goal.returns
 returns g c = (
-  front_text c.args.core c.args.outcome.now c.args.deed.now.eip
-      ++ (deed_text c.args.labels.now c.args.deed.now ++ (c.separator_of.result.now ++ c.args.reason.now)),
+  front_text c.args.step.core c.args.step.outcome.now c.args.step.deed.now.eip
+      ++ (deed_text c.args.labels.now c.args.step.deed.now ++ (c.separator_of.result.now ++ c.args.step.reason.now)),
   wrote_then c.in_ok-write_front.ensures
       (wrote_then c.in_ok-write_deed.ensures (wrote_then c.in_ok-put.ensures c.in_ok-put-2.ensures)),
 )

@@ -22,14 +22,15 @@ returns-clause-printed g c =
     let begun : Option (List ℕ) = held c.new-page.result in
     let made = c.in_ok-setup in
     IfOk-weaker c.tell-told.result
-    (λ (r : Ending × g.row.O.Denot). IsTold c.args.options.now made.setup made.machine r.0 (held made.page)
+    (λ (r : Ending × g.row.O.Denot). IsTold c.args.asked.options.now made.setup made.machine r.0 (held made.page)
     (g.O.Out.device r.1).contents)
-    (λ (r : Ending × g.row.O.Denot). IsPrinted content left c.args.options.now r.0 first (g.O.Out.device r.1).contents)
+    (λ (r : Ending × g.row.O.Denot). IsPrinted content left c.args.asked.options.now r.0 first
+    (g.O.Out.device r.1).contents)
     (λ r ended. record {
       setup = made.setup;
       machine = made.machine;
       between = held made.page;
-      ran = kept_before content left c.args.options.now made.setup made.machine first begun (held made.page)
+      ran = kept_before content left c.args.asked.options.now made.setup made.machine first begun (held made.page)
           c.new-page.ensures.kept made.ensures.made;
       told = ended;
     })
@@ -39,7 +40,7 @@ pub returns-clause-refused : goal.returns-clause-refused
 returns-clause-refused g c =
     let content : List ℕ → Option (List ℕ) = g.P.Paths.content c.args.paths.now in
     let are_one = g.P.Paths.are_one c.args.paths.now in
-    let options = c.args.options.now in
+    let options = c.args.asked.options.now in
     let setup = c.in_ok-setup.setup in
     let machine = c.in_ok-setup.machine in
     let made = c.in_ok-setup.ensures.made in

@@ -10,9 +10,10 @@ pub returns-clause-made : goal.returns-clause-made
 returns-clause-made g c =
     let stepped = c.in_ok-machine.ensures.made in
     let opened = c.in_ok-opened.ensures in
+    let options = c.args.asked.options.now in
     record {
       run = run_of_options (g.P.Paths.content c.args.paths.now) (g.P.Paths.content c.record_path.new.paths)
-          (g.P.Paths.content c.tell_steps-made.new.paths) c.args.options.now c.in_ok-opened.opened c.in_ok-path.path
+          (g.P.Paths.content c.tell_steps-made.new.paths) options c.in_ok-opened.opened c.in_ok-path.path
           c.in_ok-machine.machine stepped.made c.record_path.ensures.kept opened.setup opened.course opened.listed
           opened.out c.in_ok-path.ensures.given stepped.steps stepped.ran stepped.out stepped.recorded;
       lines = stepped.lines;
@@ -25,14 +26,14 @@ returns-in_err-opened-clause-refused g c =
     let p = err_from_is_err_and c.from_residual-in_err-opened.result c.from_residual-in_err-opened.ensures.1 in
     rw (p.1, p.2)
     (of_opening (g.P.Paths.content c.args.paths.now) (g.P.Paths.content c.record_path.new.paths)
-    (g.P.Paths.are_one c.args.paths.now) c.args.options.now c.in_err-opened.field-0.0
+    (g.P.Paths.are_one c.args.paths.now) c.args.asked.options.now c.in_err-opened.field-0.0
     c.record_path.ensures.kept c.in_err-opened.ensures.none)
 
 pub returns-in_err-machine-clause-refused : goal.returns-in_err-machine-clause-refused
 returns-in_err-machine-clause-refused g c =
     let content : List ℕ → Option (List ℕ) = g.P.Paths.content c.args.paths.now in
     let after : List ℕ → Option (List ℕ) = g.P.Paths.content c.record_path.new.paths in
-    let options = c.args.options.now in
+    let options = c.args.asked.options.now in
     let opened = c.in_ok-opened.opened in
     let p = err_from_is_err_and c.from_residual-in_err-machine.result c.from_residual-in_err-machine.ensures.1 in
     rw (p.1, p.2)

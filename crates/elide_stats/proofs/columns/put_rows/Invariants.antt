@@ -6,4 +6,4 @@ use Rattle.elide_stats.proofs.columns.put_rows.Given as goal
 -- the rows so far were put
 abbrev pub invariant-loop-row : goal.invariant-loop-row
 invariant-loop-row g l =
-    Wrote (g.O.Out.device l.initial.out) (g.O.Out.device l.out) (flat_map g.R.Row.text (take l.row-index l.rows))
+    Wrote (g.O.Out.device l.initial.out) (g.O.Out.device l.out) (flat_map g.R.PutRow.text (take l.row-index l.rows))

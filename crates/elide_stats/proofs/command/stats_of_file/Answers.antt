@@ -9,17 +9,17 @@ use Rattle.elide_stats.proofs.command.stats_of_file.Goals as goal
 
 pub returns-clause-ran : goal.returns-clause-ran
 returns-clause-ran g c =
-    let asked = c.args.asked.now in
+    let asked = c.args.job.asked.now in
     on_ok_weaker c.stats_of_setup.result
     (of_course (g.P.Paths.content c.args.paths.now) (g.P.Paths.content c.stats_of_setup.new.paths) c.args.file.now
-    asked.settings c.args.plan asked.path
+    asked.settings c.args.job.plan asked.path
     c.in_ok-setup.setup c.in_ok-setup.course c.in_ok-setup.ensures.setup c.in_ok-setup.ensures.course
     c.in_ok-setup.ensures.listed)
     c.stats_of_setup.ensures.ran
 
 pub returns-clause-refused : goal.returns-clause-refused
 returns-clause-refused g c content same read =
-    let asked = c.args.asked.now in
+    let asked = c.args.job.asked.now in
     let options = asked.options.now in
     let setup = c.in_ok-setup.setup in
     let course = c.in_ok-setup.course in
@@ -33,17 +33,17 @@ returns-clause-refused g c content same read =
       made = c.in_ok-setup.ensures.setup;
     })
     (λ picks are. c.requires.planned content picks
-    (planned_before content (g.P.Paths.content c.args.paths.now) c.args.plan picks same
+    (planned_before content (g.P.Paths.content c.args.paths.now) c.args.job.plan picks same
     (c.in_ok-setup.ensures.course picks are)))
     (subst (λ (path : Option (Bor (List ℕ))). IsNoCount setup course path why) c.requires.recorded h))
     c.stats_of_setup.ensures.refused
 
 pub returns-in_err-setup-clause-refused : goal.returns-in_err-setup-clause-refused
 returns-in_err-setup-clause-refused g c content same read =
-    let asked = c.args.asked.now in
+    let asked = c.args.job.asked.now in
     let options = asked.options.now in
     let p = err_from_is_err_and c.from_residual.result c.from_residual.ensures.1 in
     rw (p.1, p.2)
     (unscheduled (not_scheduled content (g.P.Paths.content c.args.paths.now) options.machine options.schedule
-    c.args.file.now asked.settings c.args.plan c.in_err-setup.field-0.0
+    c.args.file.now asked.settings c.args.job.plan c.in_err-setup.field-0.0
     same read c.requires.settings c.requires.named c.in_err-setup.ensures.none))

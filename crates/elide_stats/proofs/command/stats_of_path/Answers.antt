@@ -15,7 +15,7 @@ returns-clause-ran g c =
     on_ok_weaker c.stats_of_text.result
     (λ (made :
     (file : ProgramFile) × IsFile c.as_slice.result.now file
-    × HasRunPlan given left file c.args.asked.now.settings c.args.plan c.args.asked.now.path). (
+    × HasRunPlan given left file c.args.job.asked.now.settings c.args.job.plan c.args.job.asked.now.path). (
       made.0,
       given,
       record {
@@ -30,7 +30,7 @@ returns-clause-ran g c =
 
 pub returns-clause-refused : goal.returns-clause-refused
 returns-clause-refused g c content same =
-    let file = c.args.asked.now.options.now.machine.file.now in
+    let file = c.args.job.asked.now.options.now.machine.file.now in
     let given : Gives (content file) most_bytes c.as_slice.result.now =
     subst (Gives (content file) most_bytes) (sym c.as_slice.ensures.value)
     (subst (λ (known : Option (List ℕ)). Gives known most_bytes c.in_ok-text.text.items) (same file)
@@ -39,7 +39,7 @@ returns-clause-refused g c content same =
 
 pub returns-in_err-text-clause-refused : goal.returns-in_err-text-clause-refused
 returns-in_err-text-clause-refused g c content same =
-    let file = c.args.asked.now.options.now.machine.file.now in
+    let file = c.args.job.asked.now.options.now.machine.file.now in
     let cause = c.in_err-text.field-0.0 in
     let p = err_from_is_err_and c.from_residual.result c.from_residual.ensures.1 in
     rw p.1 (unscheduled (no_setup cause (not_read (rw (same file) at c.in_err-text.ensures.given)) p.2))

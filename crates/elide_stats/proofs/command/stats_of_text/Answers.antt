@@ -9,7 +9,7 @@ returns-clause-ran g c =
     on_ok_weaker c.stats_of_file-told.result
     (λ (run :
     HasRunPlan (g.P.Paths.content c.args.paths.now) (g.P.Paths.content c.stats_of_file-told.new.paths) c.in_ok-file.file
-    c.args.asked.now.settings c.args.plan c.args.asked.now.path).
+    c.args.job.asked.now.settings c.args.job.plan c.args.job.asked.now.path).
     (c.in_ok-file.file, c.in_ok-file.ensures.file, run))
     c.stats_of_file-told.ensures.ran
 

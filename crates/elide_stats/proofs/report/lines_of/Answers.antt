@@ -10,7 +10,7 @@ loop-index-preserved c =
     let there =
     entry_at entries c.loop-index.index c.get_index.result entry c.get_index.ensures.entry c.unwrap.ensures in
     zip_more IsLineRow entries c.loop-index.index (entry.0.now, entry.1.now) c.loop-index.rows.items
-    c.add.new.rows.items
+    c.add.new.row.items
     c.in_ok-line_row.field-0 there c.loop-index.invariant c.in_ok-line_row.ensures c.in_ok-add.ensures
 
 pub returns : goal.returns

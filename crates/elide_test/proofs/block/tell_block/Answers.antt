@@ -13,5 +13,5 @@ returns g c =
     λ text. Wrote (device c.put-2.new.self) (device c.tell_scalar.new.out) (scalar text) in
     let expected = subst TellsScalar c.as_str.ensures.value c.in_ok-tell_scalar.ensures in
     wrote_then c.in_ok-put.ensures (wrote_then c.in_ok-tell_number.ensures (wrote_then c.in_ok-put-2.ensures
-    (wrote_then expected (wrote_then c.in_ok-put-3.ensures (wrote_then c.in_ok-tell_status.ensures
+    (wrote_then expected (wrote_then c.in_ok-put-3.ensures (wrote_then c.in_ok-tell_number-2.ensures
     (wrote_then c.in_ok-put-4.ensures (wrote_then c.in_ok-tell_refusal.ensures c.in_ok-put-5.ensures)))))))

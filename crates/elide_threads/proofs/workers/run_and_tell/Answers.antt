@@ -6,8 +6,8 @@ use Rattle.elide_threads.proofs.workers.run_and_tell.Goals as goal
 
 pub returns-clause-refused : goal.returns-clause-refused
 returns-clause-refused g c =
-    let setup = c.args.setup.now in
-    let work = c.args.work in
+    let setup = c.args.loaded.now.setup in
+    let work = c.args.asked.now.work in
     let board = c.in_ok-board-2.board in
     IfErr-weaker c.tell_run-end.result (IsNotTold setup board) (IsNoWork setup work.budget work.plan work.path)
     (λ why h. not_told board

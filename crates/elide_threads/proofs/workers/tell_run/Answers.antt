@@ -1,5 +1,6 @@
-use Rattle.std.proofs.Common.{◌≡◌, ℕ, false, List, [], ◌++◌, refl, sym, subst}
+use Rattle.std.proofs.Common.{◌≡◌, ℕ, false, List, [], ◌++◌, Some, None, refl, sym, ap, ◌∙◌, subst}
 use Rattle.std.specs.Io.KnownBytes.{Appends}
+use Rattle.std.specs.Option.{option_copied}
 use Rattle.text_out.proofs.Writing.{appends_none}
 use Rattle.text_out.specs.Writing.{Device}
 use Rattle.elide_device.specs.Gathering.{told}
@@ -29,7 +30,10 @@ returns-clause-told g c =
       | in-Some+in_ok-tell_history w ↦
           let more = w.in_ok-tell_history.ensures.told in (
             more.0,
-            (λ e. let none = c.requires e in let some = w.in-Some.is in cc),
+            (λ e.
+                let clash : Some w.in-Some.places.now ≡ None =
+                sym (ap option_copied w.in-Some.is) ∙ c.as_ref-places.ensures.value ∙ c.requires e in
+                cc),
             subst (λ (m : Gathered g.row.O.Denot). Appends (held begun).contents (held m).contents more.0)
                 (sym w.page-is) more.1.bytes,
           )
@@ -63,7 +67,7 @@ returns-clause-told g c =
       object = λ e is plain. elim c.if-options.branch [
         | then-options+in_ok-tell_counts w ↦ let counts = w.if-options.true in cc
         | else-options+in_ok-tell_asked w ↦
-            let text = board_object c.args.board.now c.args.setup.now c.args.options.now in
+            let text = board_object c.args.board.now c.args.loaded.now.setup c.args.options.now in
             subst (λ (lines : List ℕ). Appends (g.O.Out.device c.args.out).contents
             (g.O.Out.device c.in_ok-finish.field-0).contents (lines ++ text)) (above.1 plain)
             (passed text
@@ -77,4 +81,4 @@ returns-in_err-tell_counts-clause-refused g c =
     let p =
     err_from_is_err_and c.from_residual-in_err-tell_counts.result c.from_residual-in_err-tell_counts.ensures.1 in
     rw (p.1, p.2)
-    (of_counts c.args.setup.now c.args.board.now c.in_err-tell_counts.field-0.0 c.in_err-tell_counts.ensures)
+    (of_counts c.args.loaded.now.setup c.args.board.now c.in_err-tell_counts.field-0.0 c.in_err-tell_counts.ensures)

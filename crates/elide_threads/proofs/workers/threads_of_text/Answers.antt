@@ -19,14 +19,16 @@ pub returns-clause-told : goal.returns-clause-told
 returns-clause-told g c =
     let made = c.in_ok-setup.setup in
     let left = g.P.Paths.content c.run_and_tell-end.new.paths in
+    let options = c.args.asked.now.options.now in
+    let work = c.args.asked.now.work in
     IfOk-weaker c.run_and_tell-end.result
-    (λ (given : g.row.O.Denot). (board : Board) × IsWorked made c.args.work.budget c.args.work.plan board
-    × IsTold c.args.options.now made board (g.O.Out.device c.args.out).contents (g.O.Out.device given).contents
-    × IsRecorded left c.args.work.path (schedule_text (picks_of board.history)))
+    (λ (given : g.row.O.Denot). (board : Board) × IsWorked made work.budget work.plan board
+    × IsTold options made board (g.O.Out.device c.args.out).contents (g.O.Out.device given).contents
+    × IsRecorded left work.path (schedule_text (picks_of board.history)))
     (λ (given : g.row.O.Denot). (file : ProgramFile) × (setup : Setup) × (board : Board) × IsFile c.args.text.now file
-    × IsSetup file c.args.settings.now setup × IsWorked setup c.args.work.budget c.args.work.plan board
-    × IsTold c.args.options.now setup board (g.O.Out.device c.args.out).contents (g.O.Out.device given).contents
-    × IsRecorded left c.args.work.path (schedule_text (picks_of board.history)))
+    × IsSetup file c.args.asked.now.settings setup × IsWorked setup work.budget work.plan board
+    × IsTold options setup board (g.O.Out.device c.args.out).contents (g.O.Out.device given).contents
+    × IsRecorded left work.path (schedule_text (picks_of board.history)))
     (λ given t. (c.in_ok-file.file, made, t.0, c.in_ok-file.ensures.file, c.in_ok-setup.ensures.setup, t.1, t.2, t.3))
     c.run_and_tell-end.ensures.told
 
@@ -41,20 +43,20 @@ pub returns-in_err-setup-clause-refused : goal.returns-in_err-setup-clause-refus
 returns-in_err-setup-clause-refused g c content are_one given said budget plan path =
     let none = c.in_err-setup.ensures.none in
     let p = err_from_is_err_and c.from_residual-in_err-setup.result c.from_residual-in_err-setup.ensures.1 in
-    rw (p.1, p.2) (without_program (λ any. no_setup none.0 (not_loaded c.in_ok-file.file c.args.settings.now
+    rw (p.1, p.2) (without_program (λ any. no_setup none.0 (not_loaded c.in_ok-file.file c.args.asked.now.settings
     (record { text = c.args.text.now; given = given; read = c.in_ok-file.ensures.file }) said none.2) none.1))
 
 pub returns-clause-refused : goal.returns-clause-refused
 returns-clause-refused g c content are_one given said budget plan path =
     let setup = c.in_ok-setup.setup in
-    let work = c.args.work in
+    let work = c.args.asked.now.work in
     IfErr-weaker c.run_and_tell-end.result (IsNoWork setup work.budget work.plan work.path)
-    (IsRefused content are_one c.args.options.now)
+    (IsRefused content are_one c.args.asked.now.options.now)
     (λ why h. no_work setup work.budget work.plan
     (record {
       file = c.in_ok-file.file;
       read = record { text = c.args.text.now; given = given; read = c.in_ok-file.ensures.file };
-      settings = c.args.settings.now;
+      settings = c.args.asked.now.settings;
       said = said;
       made = c.in_ok-setup.ensures.setup;
     })

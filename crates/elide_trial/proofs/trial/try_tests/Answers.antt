@@ -22,5 +22,5 @@ loop-test-preserved g c =
     let pushed = zip_push Tried (map test_content (take i tests)) c.loop-test.reports.items (test_content item)
     c.in_ok-report.report c.loop-test.invariant c.in_ok-report.ensures in
     let TriedOf : List TestReport → Type 0 = λ reports. AllZip Tried contents reports in
-    let TriedBy : List TestContent → Type 0 = λ xs. AllZip Tried xs c.push.new.reports.items in
-    subst TriedBy (sym more) (subst TriedOf (sym c.in_ok-push.ensures) pushed)
+    let TriedBy : List TestContent → Type 0 = λ xs. AllZip Tried xs c.add.new.row.items in
+    subst TriedBy (sym more) (subst TriedOf (sym c.in_ok-add.ensures) pushed)

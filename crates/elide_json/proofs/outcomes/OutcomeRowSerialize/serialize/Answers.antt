@@ -3,8 +3,9 @@ use Rattle.std.proofs.lemmas.Result.{on_ok_weaker}
 use Rattle.elide_object.specs.Object.{number_value}
 use Rattle.elide_object.proofs.Sending.{sent_equal}
 use Rattle.serde_json.specs.Data.{string}
+use Rattle.tm_hist.specs.Lines.{status_of}
 use Rattle.elide_json.specs.Outcomes.{outcome_value}
-use Rattle.elide_json.specs.Words.{number_or_null, outcome_event, outcome_name, outcome_status, outcome_stop}
+use Rattle.elide_json.specs.Words.{number_or_null, outcome_event, outcome_name, outcome_stop}
 use Rattle.elide_object.specs.Object.{text_or_null}
 use Rattle.elide_json.proofs.outcomes.OutcomeRowSerialize.serialize.Goals as goal
 
@@ -20,7 +21,7 @@ returns g c =
     c.in_ok-send_text.ensures in
     let stop = sent_equal (codes "stop") text_or_null _ (outcome_stop outcome) _ _ c.stop_of_outcome.ensures
     c.in_ok-send_text_or_null.ensures in
-    let status = sent_equal (codes "status") number_or_null _ (outcome_status outcome) _ _ c.status_of.ensures
+    let status = sent_equal (codes "status") number_or_null _ (status_of outcome) _ _ c.status_of.ensures
     c.in_ok-send_optional.ensures in
     let event = sent_equal (codes "event") text_or_null _ (outcome_event outcome) _ _ c.event_of.ensures
     c.in_ok-send_text_or_null-2.ensures in

@@ -21,12 +21,12 @@ use Rattle.elide_stats.proofs.counting.Counting.run_course.Goals as goal
 pub returns-clause-ran : goal.returns-clause-ran
 returns-clause-ran g c =
     let same : AbortCause → AbortCause → Bool = (causes.ghosts).eq in
-    let course = c.args.course.now in
+    let course = c.args.recorded.course.now in
     let first = c.args.self.now in
     let last = c.walk_recorded.new.maker in
     let left = g.P.Paths.content c.walk_recorded.new.paths in
     let Kept : List (Pick × Outcome) → Type 0 =
-    λ made. IsRecorded left c.args.path (schedule_made course (picks_told made)) in
+    λ made. IsRecorded left c.args.recorded.path (schedule_made course (picks_told made)) in
     IfOk-weaker c.walk_recorded.result
     (λ _. (made : List (Pick × Outcome)) × AreOf course (picks_made made) × Leads (Counts same) first made last
     × Kept made × IsOut course c.cores-cores.result made)
@@ -38,14 +38,14 @@ returns-clause-ran g c =
 pub returns-clause-refused : goal.returns-clause-refused
 returns-clause-refused g c =
     let same : AbortCause → AbortCause → Bool = (causes.ghosts).eq in
-    let course = c.args.course.now in
+    let course = c.args.recorded.course.now in
     let first = c.args.self.now in
     let refuses : Counting → Pick → Refusal → Type 0 = λ counting pick why. IsUncountedStep counting.machine pick why in
     IfErr-weaker c.walk_recorded.result
     (λ (why : Refusal). IsNoWalk (Counts same) refuses course c.cores-cores.result first why
-    ⊎ IsUnrecorded c.args.path why)
-    (IsUncounted course (length first.machine.views) c.args.path)
-    (λ why h. of_walk same course c.cores-cores.result c.args.path first why c.cores-cores.ensures.count
+    ⊎ IsUnrecorded c.args.recorded.path why)
+    (IsUncounted course (length first.machine.views) c.args.recorded.path)
+    (λ why h. of_walk same course c.cores-cores.result c.args.recorded.path first why c.cores-cores.ensures.count
     c.in_ok-check_cores.ensures.fit h)
     c.walk_recorded.ensures.refused
 
@@ -54,5 +54,5 @@ returns-in_err-check_cores-clause-refused g c =
     let why = c.in_err-check_cores.field-0.0 in
     let p = err_from_is_err_and c.from_residual.result c.from_residual.ensures.1 in
     rw (p.1, p.2)
-    (beyond (subst (λ (cores : ℕ). NamesNoCore (listed_in c.args.course.now) cores why) c.cores-cores.ensures.count
-    c.in_err-check_cores.ensures.none))
+    (beyond (subst (λ (cores : ℕ). NamesNoCore (listed_in c.args.recorded.course.now) cores why)
+    c.cores-cores.ensures.count c.in_err-check_cores.ensures.none))

@@ -1,8 +1,8 @@
 use Rattle.std.proofs.Common.{◌∷◌, arith, refl}
 use Rattle.elide_stats.proofs.counting.CountingStepMaker.make_step.Goals as goal
 
-pub returns-in-Ok-clause-made : goal.returns-in-Ok-clause-made
-returns-in-Ok-clause-made c =
+pub returns-in-Ok-note-clause-made : goal.returns-in-Ok-note-clause-made
+returns-in-Ok-note-clause-made c =
     let machine = c.args.self.now.machine in
     let step = c.step.result in (
       c.in_ok-outcome.ensures.made,
@@ -15,6 +15,6 @@ returns-in-Ok-clause-made c =
           c.step.ensures machine c.before-asked.ensures,
           (refl, refl),
         );
-        counts = λ few was. c.in-Ok.ensures.ok earlier (omega (arith, few)) was;
+        counts = λ few was. c.in-Ok-note.ensures.ok earlier (omega (arith, few)) was;
       },
     )

@@ -1,5 +1,5 @@
 use Rattle.text_out.proofs.Writing.{wrote_then}
-use Rattle.elide_stats.proofs.columns.PlaceRowRow.put.Goals as goal
+use Rattle.elide_stats.proofs.columns.PlaceRowPutRow.put.Goals as goal
 
 pub returns : goal.returns
 returns g c =
