@@ -39,3 +39,12 @@ pub test_from : (w : Width) (t s : Operand) → IsTrue (fits_test w t s) → IsT
 test_from w t (Reg s) h = grind arith
 test_from w t (Memory m) h = grind arith
 test_from w t (Imm n) h = grind arith
+
+-- the two operands of an encodable pair
+pub ruleset pairs = (readable, pair_to, pair_from)
+
+-- the two of a TEST
+pub ruleset tests = (readable, test_to, test_from)
+
+-- the operand that is read
+pub ruleset sources = (readable, pair_from)

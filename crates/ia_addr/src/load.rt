@@ -1,4 +1,5 @@
-//! What an instruction loads.
+//! What an instruction loads, told of its registers before it runs: at most one byte or doubleword. Whether that lies
+//! in memory is not asked here, and what is stored is not told.
 
 ghost use Rattle.std.specs.Prelude.{◌≡◌, ◌<◌, IsTrue};
 ghost use Rattle.ia_insn.specs.Writing.{fits_operand};
@@ -21,7 +22,7 @@ pub fn load_of(insn: &Insn, regs: &Regs) -> Option<Access>
 }
 
 // What an operation loads.
-#[tactic(auto, using(crate::proofs::Fits::readable, crate::proofs::Fits::pair_from), unfolding(crate::specs::Load::op_load))]
+#[tactic(auto, using(crate::proofs::Fits::sources), unfolding(crate::specs::Load::op_load))]
 fn op_load(op: &Op, regs: &Regs) -> Option<Access>
     requires { IsTrue (encodable op.now) }
     ensures { result ≡ op_load op.now regs.now }

@@ -36,3 +36,6 @@ wrapped_is (negsuc n) h o = grind (arith, nat_tests)
 pub signed_nonzero : (n : ℕ) → n < 2 ^ 32 → n ≢ 0 → signed_value D n ≢ pos 0
 unfolding signed_value
 signed_nonzero n h ne = grind (arith, nat_tests, ints)
+
+-- a quotient that fits, or does not
+pub ruleset quotients = (quotient_within, wrapped_overflows, wrapped_is)

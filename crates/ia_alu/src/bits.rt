@@ -1,4 +1,5 @@
-//! Bit tests.
+//! Bit tests: a doubleword, the index of a bit and the flags come in; the doubleword as it is left and the flags come
+//! out, where CF alone is another. An index past 31 counts modulo 32, as for an operand in a register.
 
 ghost use Rattle.std.specs.Prelude.{◌≡◌, ◌<◌, ◌%◌, ◌==◌, ◌↔◌, ℕ, IsTrue};
 ghost use Rattle.std.specs.Int.{bit_at};

@@ -1,4 +1,5 @@
-//! The fault of a division.
+//! The fault of a division, which DIV and IDIV share: a divisor of 0, or a quotient that does not fit a doubleword.
+//! What the processor makes of it is `ia_exec`'s.
 
 ghost use Rattle.std.specs.Prelude.{◌≡◌};
 

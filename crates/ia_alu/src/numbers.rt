@@ -1,4 +1,5 @@
-//! Operands as signed whole numbers.
+//! Operands as signed whole numbers: what they stand for by their top bit, and the flags of a result by its number. For
+//! `sums` and `products`, whose overflow is that of the number and not of its bits.
 
 ghost use Rattle.std.specs.Prelude.{◌≡◌, ◌<◌, ◌^◌, ◌≤◌, ◌%◌, ◌<ℤ◌, ◌≤ℤ◌, ◌↔◌, IsTrue, count_ones, pos, neg_ℤ};
 ghost use Rattle.ia_word.specs.Width.{bits_of};

@@ -1,4 +1,5 @@
-//! Products and quotients of doublewords.
+//! Products and quotients of doublewords, each from numbers of 64 bits, so that no half is lost. Flags that Intel
+//! leaves undefined are those that came in.
 
 ghost use Rattle.std.specs.Prelude.{◌≡◌, ◌<◌, ◌^◌, ◌%◌, ◌/◌, ◌*◌, ◌+◌, ◌*ℤ◌, Ok, Err, true, ◌↔◌, IsErr, IsTrue, IfOk};
 ghost use Rattle.std.specs.Prelude.{◌≤◌, ◌≢◌, pos, int_div, int_rem};
@@ -143,7 +144,7 @@ fn dividend_of(high: u32, low: u32) -> i64
 }
 
 // The quotient and remainder of signed numbers, where the quotient fits a doubleword.
-#[tactic(auto, using(crate::proofs::Divisions::quotient_within, crate::proofs::Divisions::wrapped_overflows, crate::proofs::Divisions::wrapped_is))]
+#[tactic(auto, using(crate::proofs::Divisions::quotients))]
 fn divided(dividend: i64, by: i64) -> Result<(i64, i64), Divide>
     requires { by ≢ pos 0 }
     ensures fault { IsErr result ↔ (overflows D (int_div dividend by) ≡ true) }

@@ -1,4 +1,5 @@
-//! Sums and differences.
+//! Sums and differences of bytes and doublewords, with a carry or a borrow that comes in, and all six flags of the
+//! result. INC and DEC, which leave CF, are not here.
 
 ghost use Rattle.std.specs.Prelude.{◌≡◌, ◌<◌, ◌≤◌, ◌^◌, ◌+◌, ◌%◌, ◌+ℤ◌, ◌-ℤ◌, ◌↔◌, IsTrue, count_ones, pos};
 ghost use Rattle.ia_regs.specs.Flags.{has_carry, has_parity, has_adjust, has_zero, has_sign, has_overflow};

@@ -1,4 +1,4 @@
-//! What a source gives.
+//! What a source gives, for each who asks: the image, the symbols with their values, and the listing, or some of these.
 
 ghost use Rattle.std.specs.Prelude.{◌≡◌};
 ghost use Rattle.ia_asm.specs.Assemblies.{known_as};

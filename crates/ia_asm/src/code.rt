@@ -1,4 +1,5 @@
-//! The bytes of a source.
+//! The bytes of a source: each item's place comes in, from the lowest on, and its bytes are kept. Values of symbols are
+//! known before.
 
 ghost use Rattle.std.specs.Prelude.{◌≡◌, ◌≤◌, ◌+◌, ◌^◌, [], refl, IfOk};
 ghost use Rattle.ia_layout.specs.Placement.{gap, code_and_data};

@@ -1,4 +1,5 @@
-//! The listing.
+//! The listing: a line for each instruction, and for data one for up to twelve bytes, in the order of their addresses.
+//! Places come in as for the bytes.
 
 ghost use Rattle.std.specs.Prelude.{◌≡◌, ◌+◌, ◌*◌, ◌<◌, ◌%◌, ◌^◌, ◌++◌, ◌∷◌, [], false, refl, IsTrue, List, length};
 ghost use Rattle.std.specs.Prelude.{IfOk, OnOk};

@@ -1,4 +1,5 @@
-//! The one-byte opcodes.
+//! The opcodes of one byte, by their row: those below 40 here, since they are eight times the same six, and the others
+//! in `rows_40` to `rows_c0`. A prefix is taken off before, in `whole`.
 
 ghost use Rattle.std.specs.Prelude.{◌≡◌, ◌<◌};
 ghost use Rattle.ia_insn.specs.Table.{alu_row, one_byte};

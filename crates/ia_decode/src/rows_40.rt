@@ -1,4 +1,5 @@
-//! The opcodes 40 to 7F.
+//! The opcodes 40 to 7F, behind which the rest of the instruction comes in; the operation and what stands behind it
+//! come out. Each names its register, or its condition, in its low bits.
 
 ghost use Rattle.ia_insn.specs.Table.{row_40};
 ghost use Rattle.ia_insn.specs.Reading.{Gives, form_at};

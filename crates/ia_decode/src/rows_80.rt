@@ -1,4 +1,5 @@
-//! The opcodes 80 to 9F.
+//! The opcodes 80 to 9F, most of which have a ModRM byte behind them. A group (80, 81, 83, 8F) names its operation in
+//! that byte's middle field, which is read first.
 
 ghost use Rattle.std.specs.Prelude.{◌≡◌, ◌≤◌};
 ghost use Rattle.ia_insn.specs.Table.{row_80};

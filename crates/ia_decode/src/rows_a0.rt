@@ -1,4 +1,5 @@
-//! The opcodes A0 to BF.
+//! The opcodes A0 to BF: AL or EAX is an operand of most, which no byte names. String instructions among them are
+//! outside of the subset.
 
 ghost use Rattle.std.specs.Prelude.{◌≡◌};
 ghost use Rattle.ia_insn.specs.Table.{at, row_A0};

@@ -1,4 +1,5 @@
-//! The opcodes C0 to FF.
+//! The opcodes C0 to FF: shifts by a number or CL, returns, MOV of a number, jumps and calls, and the groups F6, F7, FE
+//! and FF, whose operation stands in the ModRM byte.
 
 ghost use Rattle.std.specs.Prelude.{◌≡◌, ◌≤◌};
 ghost use Rattle.ia_insn.specs.Table.{row_C0};

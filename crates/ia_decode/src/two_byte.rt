@@ -1,4 +1,5 @@
-//! The opcodes behind 0F.
+//! The opcodes of two bytes, behind 0F, and PAUSE, which stands behind F3. A second byte that the subset lacks is
+//! `NotInSubset`, before the bytes behind it are read.
 
 ghost use Rattle.std.specs.Prelude.{◌≡◌, ◌<◌, ◌≤◌};
 ghost use Rattle.ia_insn.specs.Table.{two_byte, behind_f3};

@@ -1,4 +1,5 @@
-//! Whole instructions.
+//! Whole instructions: first LOCK is taken off, then the opcode is read with its operands, from left to right, and at
+//! last the bytes that it took are counted. Bytes come in; whether more stand behind the instruction is not asked.
 
 ghost use Rattle.std.specs.Prelude.{◌≡◌, ◌++◌, ◌+◌, ◌≤◌, ◌↔◌, ℕ, List, IfOk, IsTrue, Ok, Err, length, take};
 ghost use Rattle.ia_insn.specs.declared.op.Insn.{Insn};

@@ -48,3 +48,6 @@ course_of_one text d refused here =
 
 pub course_is : (text : List ℕ) (ds : List Diagnosis) (least : ℕ) → Course text ds least → AreDiagnoses text ds
 course_is text ds least c = record { first = c.first; rising = (least, c.rising); few = c.few }
+
+-- a course that rises
+pub ruleset courses = (course_more, course_of_one, course_is)

@@ -1,4 +1,5 @@
-//! Lines that are changed.
+//! Lines that are changed in a copy of a source, to see whether it is read then: a faulty line is taken out, or other
+//! bytes stand in place of a part. The source itself stays.
 
 use crate::line::{head_of, line_at};
 use crate::piece::next_piece;

@@ -1,4 +1,5 @@
-//! The faults of a source.
+//! The faults of a source, not the first one alone: the line of each is taken out of a copy, which is then read again,
+//! until none is left or enough are told. They come in the order of their lines.
 
 ghost use Rattle.std.specs.Prelude.{◌≡◌, ◌<◌, ◌+◌, ◌^◌, ◌++◌, ◌∷◌, [], IfOk, MatchOption};
 ghost use Rattle.ia_diagnosis.specs.Diagnoses.{AreDiagnoses, Extends, HasProgram, IsPlaced, turn};
@@ -81,7 +82,7 @@ fn tell_next<'a>(
 }
 
 // The faults behind the first one, of a copy without its line.
-#[tactic(auto, using(crate::proofs::Rising::course_more, crate::proofs::Rising::course_of_one, crate::proofs::Rising::course_is))]
+#[tactic(auto, using(crate::proofs::Rising::courses))]
 fn further<'a>(
     alloc: Global,
     source: &'a [u8],

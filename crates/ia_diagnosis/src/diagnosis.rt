@@ -1,4 +1,5 @@
-//! A fault with its place.
+//! A fault with its place: the line, the part of it that is at fault, and what may be meant. What is written of it to a
+//! terminal is not made here.
 
 ghost use Rattle.std.specs.Prelude.{◌≡◌, ◌≤◌, ◌+◌, ◌-◌, IfOk, MatchOption, length};
 ghost use Rattle.ia_diagnosis.specs.Diagnoses.{HasNoLine, IsPlaced};

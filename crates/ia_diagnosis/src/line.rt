@@ -1,4 +1,5 @@
-//! The lines of a source.
+//! The lines of a source, by their numbers, and the label that a line begins with. They are found anew at each call,
+//! since faults are few.
 
 ghost use Rattle.std.specs.Prelude.{◌≡◌, ◌≤◌, MatchOption, None, Some, length};
 ghost use Rattle.ia_diagnosis.specs.Diagnoses.{line_at};

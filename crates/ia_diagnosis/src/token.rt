@@ -1,4 +1,4 @@
-//! Bytes that are no token.
+//! Bytes that are no token: the first part of a line that is none, and what may be meant by it.
 
 use crate::finding::Finding;
 use crate::meaning::Meaning;

@@ -84,3 +84,9 @@ memory_low file end low memory =
     let below = low memory.some.0 memory.some.1 memory.some.2 in
     let is = memory.some.3 in
     omega arith
+
+-- ends that stay below 2^32
+pub ruleset low_ends = (code_low, memory_low)
+
+-- segments whose ends are taken one by one
+pub ruleset end_steps = (ends_more, ends_none, ends_refused)

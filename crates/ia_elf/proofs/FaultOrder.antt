@@ -28,3 +28,6 @@ before_memory file machine whole executable code low order front fault.TooHigh h
 before_memory file machine whole executable code low order front fault.Overlap h = order
 before_memory file machine whole executable code low order front fault.CodeNotInFront h = front
 before_memory file machine whole executable code low order front fault.NoMemory h = absurd (omega arith)
+
+-- which fault comes first
+pub ruleset fault_order = (before_last, before_memory)

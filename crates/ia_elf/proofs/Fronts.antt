@@ -19,3 +19,6 @@ prefix_stop p xs i h e =
 
 pub prefix_end : (p : ℕ → Bool) (xs : List ℕ) (i : ℕ) → length xs ≤ i → prefix_len p (drop i xs) ≡ 0
 prefix_end p xs i h = at_drop_all (prefix_len p) xs i h
+
+-- a front that is looked for byte by byte
+pub ruleset prefix_steps = (prefix_step, prefix_stop, prefix_end)

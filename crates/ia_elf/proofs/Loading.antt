@@ -192,3 +192,6 @@ bytes_fit file bytes base end loaded whole memory =
     let below = memory.most last.0 last.1 last.2.0 in
     let is = last.3 in
     omega arith
+
+-- segments that are loaded one by one
+pub ruleset load_steps = (starts, loaded_more, loaded_none)

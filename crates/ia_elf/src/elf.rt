@@ -1,4 +1,5 @@
-//! Executables that were read.
+//! Executables that were read: memory, code, start and symbols, as the file states them. Whether a program can be made
+//! of them is asked elsewhere.
 
 ghost use Rattle.std.specs.Prelude.{◌≡◌, ◌+◌, ◌/◌, ◌≤◌, IfErr, IfOk, OnOk, length};
 ghost use Rattle.ia_elf.specs.Faults.{IsFirstFault, IsFreeBefore};

@@ -1,4 +1,5 @@
-//! Why a file is refused.
+//! Why a file is refused: no executable of this machine, or one that states what cannot be. Several may apply; the
+//! first case is told.
 
 ghost use Rattle.std.specs.Prelude.{◌≡◌};
 ghost use Rattle.ia_elf.specs.Faults.{fault_number};

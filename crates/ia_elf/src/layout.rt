@@ -91,7 +91,7 @@ pub(crate) fn is_low(file: &[u8]) -> bool
 }
 
 /// Where the memory of the last segment ends, or nothing where the segments don't stand in ascending order.
-#[tactic(auto, using(crate::proofs::Ends::ends_more, crate::proofs::Ends::ends_none, crate::proofs::Ends::ends_refused))]
+#[tactic(auto, using(crate::proofs::Ends::end_steps))]
 pub(crate) fn memory_end_in_order(file: &[u8]) -> Option<u64>
     requires whole { IsWhole file.now }
     requires code { SomeCode file.now }

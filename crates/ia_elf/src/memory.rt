@@ -1,4 +1,5 @@
-//! The bytes that are loaded.
+//! The bytes that are loaded: segments by their addresses, from the lowest on, with zeros between them. Headers were
+//! read and compared before.
 
 ghost use Rattle.std.specs.Prelude.{◌≡◌, ◌+◌, ◌-◌, ◌^◌, ◌<◌, ◌≤◌, ◌++◌, IfOk, OnOk, drop, length, replicate, take};
 ghost use Rattle.ia_elf.specs.Faults.{IsWhole};
@@ -28,7 +29,7 @@ fn push_segment(
 }
 
 /// The bytes of all segments that are loaded, from the base on.
-#[tactic(auto, using(crate::proofs::Loading::starts, crate::proofs::Loading::loaded_more, crate::proofs::Loading::loaded_none))]
+#[tactic(auto, using(crate::proofs::Loading::load_steps))]
 pub(crate) fn load(alloc: Global, file: &[u8], base: u32) -> Result<Vec<u8>, AllocError>
     requires whole { IsWhole file.now }
     requires base { IsBase file.now base }

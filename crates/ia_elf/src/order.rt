@@ -21,7 +21,7 @@ pub(crate) struct Tested<'a> {
 }
 
 /// Tests a file, up to what wants memory.
-#[tactic(auto, using(crate::proofs::Ends::code_low, crate::proofs::Ends::memory_low, crate::proofs::FaultOrder::before_last, crate::proofs::FaultOrder::before_memory))]
+#[tactic(auto, using(crate::proofs::Ends::low_ends, crate::proofs::FaultOrder::fault_order))]
 pub(crate) fn test(file: &[u8]) -> Result<Tested<'_>, ElfFault>
     ensures passed { OnOk result (IsFreeBefore file.now ElfFault.NoMemory) }
     ensures tables { IfOk result (λ t. AreTables file.now t.tables.symbols.now t.tables.strings.now) }

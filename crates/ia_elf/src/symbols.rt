@@ -30,7 +30,7 @@ pub struct Symbol<'a> {
 }
 
 // How many bytes stand before the first NUL.
-#[tactic(auto, using(crate::proofs::Fronts::prefix_step, crate::proofs::Fronts::prefix_stop, crate::proofs::Fronts::prefix_end))]
+#[tactic(auto, using(crate::proofs::Fronts::prefix_steps))]
 fn name_length(text: &[u8]) -> usize
     ensures long { result ≡ prefix_len is_not_nul text.now }
     ensures within { result ≤ length text.now }

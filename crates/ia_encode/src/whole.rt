@@ -1,4 +1,5 @@
-//! Whole instructions.
+//! Whole instructions: LOCK in front, then opcode, ModRM, SIB, displacement and immediate, as the operation has them.
+//! An instruction comes in that some bytes spell; whether it is one is asked in `ia_insn`.
 
 ghost use Rattle.std.specs.Prelude.{◌≡◌, ◌≤◌, ◌++◌, IsTrue, List, ℕ, Ok, length};
 ghost use Rattle.arrayvec.specs.ArrayVec.{array_vec_len};

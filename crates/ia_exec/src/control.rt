@@ -22,17 +22,20 @@ pub(crate) fn control_row(op: &Op, regs: &mut Regs, loaded: u32) -> Option<Store
 {
     match op {
         Op::Push(from) => {
+            // Before ESP is lowered: PUSH ESP stores what it was (SDM volume 2, PUSH).
             let value = value(Width::D, from, regs, loaded);
             return Some(push(value, regs));
         }
         Op::Pop(to) => return pop_row(to, loaded, regs),
         Op::Call(distance) => {
+            // EIP is behind the instruction already, which is where the call returns.
             let back = regs.eip;
             jump_by(*distance, regs);
             return Some(push(back, regs));
         }
         Op::CallTo(to) => {
             let back = regs.eip;
+            // Before the push: a target in ESP is what it was.
             regs.eip = value(Width::D, to, regs, loaded);
             return Some(push(back, regs));
         }

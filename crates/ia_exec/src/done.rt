@@ -1,4 +1,5 @@
-//! What an instruction comes to.
+//! What an instruction comes to, as data: it goes on with a store or none, begins, ends or aborts a transaction, or
+//! stops. Nothing is carried out here: who asked writes the store, and knows what an abort leaves.
 
 ghost use Rattle.std.specs.Prelude.{◌≡◌};
 ghost use Rattle.ia_regs.specs.declared.Regs.{Regs};

@@ -34,7 +34,7 @@ fn is_prefix(byte: u8) -> bool
 }
 
 // How many bytes in front are prefixes.
-#[tactic(auto, using(crate::proofs::Fronts::prefix_step, crate::proofs::Fronts::prefix_stop, crate::proofs::Fronts::prefix_end))]
+#[tactic(auto, using(crate::proofs::Fronts::prefix_steps))]
 fn prefix_count(bytes: &[u8]) -> usize
     ensures count { result ≡ prefix_len is_prefix bytes.now }
     ensures within { result ≤ length bytes.now }

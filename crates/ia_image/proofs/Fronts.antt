@@ -66,3 +66,6 @@ value_small xs i h few within =
 
 pub value_all : (xs : List ℕ) (i : ℕ) → length xs ≤ i → digits_value 16 (take i xs) ≡ digits_value 16 xs
 value_all xs i h = ap (digits_value 16) (take_all i xs h)
+
+-- a number that is read digit by digit
+pub ruleset value_steps = (value_step, value_small, digit_at, value_all)

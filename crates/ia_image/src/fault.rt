@@ -1,4 +1,5 @@
-//! Why an image is refused.
+//! Why an image is refused: as a text (`ImageFault`, with its line), or as a program (`LoadFault`, in the order in
+//! which its conditions are asked). Numbers of faults are those of docs/FORMATS.md.
 
 ghost use Rattle.std.specs.Prelude.{◌≡◌};
 ghost use Rattle.ia_image.specs.ImageText.{image_fault_line, image_fault_number};

@@ -32,7 +32,7 @@ fn is_hex(byte: u8) -> bool
 }
 
 // How many hex digits stand in front.
-#[tactic(auto, using(ia_lex::proofs::Fronts::prefix_step, ia_lex::proofs::Fronts::prefix_stop, ia_lex::proofs::Fronts::prefix_end))]
+#[tactic(auto, using(ia_lex::proofs::Fronts::prefix_steps))]
 fn digits_in_front(text: &[u8]) -> usize
     ensures count { result ≡ prefix_len is_hex text.now }
     ensures within { result ≤ length text.now }
@@ -54,7 +54,7 @@ fn digit(byte: u8) -> u32
 }
 
 // The number that up to 8 hex digits write.
-#[tactic(auto, using(crate::proofs::Fronts::value_step, crate::proofs::Fronts::value_small, crate::proofs::Fronts::digit_at, crate::proofs::Fronts::value_all))]
+#[tactic(auto, using(crate::proofs::Fronts::value_steps))]
 fn value(digits: &[u8]) -> u32
     requires digits { list_all is_hex digits.now ≡ true }
     requires few { length digits.now ≤ 8 }

@@ -1,4 +1,5 @@
-//! Image text is written.
+//! An image is written as text: its header, and the bytes of its code in rows of 32. What is written is read as the
+//! same image; the format is in docs/FORMATS.md.
 
 ghost use Rattle.std.specs.Prelude.{◌≡◌, ◌+◌, ◌*◌, ◌≤◌, ◌<◌, ◌++◌, ◌∷◌, [], Ok, length};
 ghost use Rattle.arrayvec.specs.ArrayVec.{array_vec_len};

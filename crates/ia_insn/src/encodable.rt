@@ -1,4 +1,5 @@
-//! Which instructions have a spelling.
+//! Which instructions have a spelling: each field is in the range that its place in the bytes has, and the operands may
+//! stand together. That an encoding is read as its instruction is `ia_encode`'s.
 
 ghost use Rattle.std.specs.Prelude.{◌≡◌, ◌↔◌, ◌&&◌, ◌++◌, IsTrue, List, ℕ};
 ghost use Rattle.ia_insn.specs.Spelling.{Spells, is_place};

@@ -1,4 +1,5 @@
-//! Why bytes are no instruction.
+//! Why bytes are no instruction of the subset: they end too early, begin one that the subset lacks, or have LOCK where
+//! it may not stand. Which of them is told where several are so is `ia_decode`'s.
 
 ghost use Rattle.std.specs.Prelude.{◌≡◌};
 ghost use Rattle.ia_insn.specs.Fault.{fault_code};

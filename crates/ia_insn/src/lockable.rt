@@ -1,4 +1,5 @@
-//! Where LOCK may stand.
+//! Where LOCK may stand: before an operation that loads, changes and stores one place in memory (SDM volume 2, "LOCK").
+//! Decoder, assembler and machine ask this one table.
 
 ghost use Rattle.std.specs.Prelude.{◌≡◌};
 ghost use Rattle.ia_insn.specs.Spelling.{lockable};

@@ -1,4 +1,5 @@
-//! Instructions.
+//! Instructions as data: an operation with its operands, and LOCK beside it. Forms of one operation that differ in
+//! their bytes alone are one case; which have a spelling is `encodable`'s.
 
 use crate::kinds::Count;
 use crate::operand::{Mem, Operand};

@@ -1,4 +1,5 @@
-//! Operands.
+//! Operands: a register or a place in memory, with the parts that an address is the sum of. Immediates are no operands
+//! here, since no instruction writes to one.
 
 /// A place in memory: base + index * scale + displacement, modulo 2^32 (SDM volume 1, "Specifying an Offset").
 #[derive(Clone, Copy, Debug, PartialEq, Eq)]

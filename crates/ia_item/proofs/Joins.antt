@@ -70,3 +70,6 @@ parted f b g h l e =
 pub parted_apart : (f b g h : List ℕ) → length f ≤ length g → bytes_eq f (take (length f) g) ≡ false
     → bytes_eq (f ++ b) (g ++ h) ≡ false
 parted_apart f b g h l e = cut_both f b g h l ∙ ap (λ x. x && bytes_eq b (drop (length f) g ++ h)) e
+
+-- a name made of its scope and its own
+pub ruleset joins = (joined_is, joined_apart, joined_short)

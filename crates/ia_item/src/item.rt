@@ -1,4 +1,5 @@
-//! Items.
+//! Items, which are what a source asks for, line by line: instructions whose numbers are still expressions, data, room,
+//! sections, labels. Each line is read alone; values come later.
 
 use crate::expression::ScopedExpression;
 use crate::symbol::Definition;

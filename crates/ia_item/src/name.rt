@@ -1,4 +1,5 @@
-//! Names of symbols.
+//! Names of symbols, which borrow the source: whole ones, and those of local labels, which belong to the label before
+//! them.
 
 ghost use Rattle.std.specs.Prelude.{◌≡◌, ◌++◌};
 ghost use Rattle.ia_item.specs.Digests.{new_hasher, given_more, name_digest};

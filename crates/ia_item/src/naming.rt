@@ -1,4 +1,5 @@
-//! Making, comparing and hashing names.
+//! Making, comparing and hashing names. A local label's name is never put together: its parts are compared and hashed
+//! one behind the other, so that both ways of writing it are one name.
 
 ghost use Rattle.std.specs.Prelude.{◌≡◌, ◌++◌, ◌≤◌, length};
 ghost use Rattle.std.specs.Hash as fed;
@@ -60,7 +61,7 @@ impl<'a> Name<'a> {
 }
 
 /// Whether two parts, one behind the other, are the text.
-#[tactic(auto, using(crate::proofs::Joins::joined_is, crate::proofs::Joins::joined_apart, crate::proofs::Joins::joined_short))]
+#[tactic(auto, using(crate::proofs::Joins::joins))]
 fn is_joined(front: &[u8], back: &[u8], text: &[u8]) -> bool
     ensures { result ≡ bytes_eq (front.now ++ back.now) text.now }
 {

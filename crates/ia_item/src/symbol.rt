@@ -1,4 +1,5 @@
-//! Symbols by their numbers.
+//! Symbols by their numbers, which are compared in place of names from here on; a definition keeps the name for what is
+//! told.
 
 use crate::name::Name;
 

@@ -1,4 +1,5 @@
-//! The bytes of items.
+//! The bytes of items, each at the place that it was given, with the values of symbols at hand. An item comes in that
+//! fits; nothing is refused here but memory.
 
 ghost use Rattle.std.specs.Prelude.{◌≡◌, ◌≤◌, ◌^◌, ◌++◌, replicate, IfOk, OnOk};
 ghost use Rattle.ia_word.specs.Bytes.{long_bytes};

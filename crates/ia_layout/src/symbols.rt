@@ -1,4 +1,5 @@
-//! The symbols of a source.
+//! The symbols of a source with their values: labels by the place of their line, `equ` by its expression. Items are
+//! taken in the order of the source.
 
 ghost use Rattle.std.specs.Prelude.{◌≡◌, refl, OnOk};
 ghost use Rattle.indexmap.specs.IndexMap.{insert_all};

@@ -102,3 +102,6 @@ alone (b ∷ c ∷ rest) h e = elim (cases_Bool (b == 10)) [
 pub first_is_all : (xs : List ℕ) → 0 < length xs → prefix_len (differs 10) xs ≡ length xs
     → lines_of xs ≡ xs ∷ lines_of (drop (length xs) xs)
 first_is_all xs h e = alone xs h e ∙ ap (λ l. xs ∷ lines_of l) (sym (drop_all (length xs) xs (omega arith)))
+
+-- where a line ends
+pub ruleset line_ends = (ends_in_cr, ends_otherwise, ends_nowhere)

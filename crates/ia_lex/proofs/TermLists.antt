@@ -63,3 +63,6 @@ pub expr_signed : (neg : Bool) (t : Lexeme) (ts : List Lexeme) → Some neg ≡ 
     → expression_at (t ∷ ts) ≡ terms_at 16 (Some neg) ts
 expr_signed neg t ts e =
     ap (λ s. by_sign s (terms_at 16 (Some false) (t ∷ ts)) (λ neg. terms_at 16 (Some neg) ts)) (sym e)
+
+-- terms that are read one by one
+pub ruleset term_steps = (terms_one, terms_bad, terms_full, terms_stop, terms_nil, terms_sign)

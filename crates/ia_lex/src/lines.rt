@@ -1,4 +1,5 @@
-//! The lines of a source.
+//! The lines of a source, from the first on: an end is a line feed, with a carriage return before it or without, and
+//! belongs to no line.
 
 ghost use Rattle.std.specs.Prelude.{◌≡◌, ◌∷◌, ◌<◌, ◌≤◌, drop, length};
 ghost use Rattle.std.specs.List.{prefix_len};
@@ -8,7 +9,7 @@ ghost use Rattle.ia_lex.specs.Lines.{lines_of, without_cr};
 use crate::chars::quote_place;
 
 /// A line without the carriage return that may end it.
-#[tactic(auto, using(crate::proofs::Ends::ends_in_cr, crate::proofs::Ends::ends_otherwise, crate::proofs::Ends::ends_nowhere))]
+#[tactic(auto, using(crate::proofs::Ends::line_ends))]
 pub fn without_cr(line: &[u8]) -> &[u8]
     ensures { result.now ≡ without_cr line.now }
 {

@@ -1,4 +1,5 @@
-//! Numbers.
+//! Numbers as a source writes them: decimal, hex (0x in front or h behind) and binary, of 64 bits. A word that begins
+//! with a digit is a number or a fault, never a name.
 
 ghost use Rattle.std.specs.Prelude.{◌≡◌, ◌≤◌, ◌<◌, ◌+◌, ◌*◌, ℕ, length};
 ghost use Rattle.std.specs.Char.{digit_value};
@@ -31,7 +32,7 @@ fn with_digit(radix: u8, sum: u64, digit: u8) -> Option<u64>
     }
 }
 
-#[tactic(auto, using(crate::proofs::Fronts::value_step, crate::proofs::Fronts::value_end, crate::proofs::Fronts::value_ge, crate::proofs::Fronts::small_at, crate::proofs::Fronts::small_none))]
+#[tactic(auto, using(crate::proofs::Fronts::value_steps))]
 /// The value of digits, or none where it is above u64::MAX.
 fn value(radix: u8, bytes: &[u8]) -> Option<u64>
     requires { 2 ≤ radix }

@@ -1,4 +1,5 @@
-//! Expressions from tokens.
+//! Expressions from tokens: a sign or none, then numbers and symbols with signs between, 16 at most. What stands behind
+//! the expression is handed back; the sum is made where symbols have values.
 
 ghost use Rattle.std.specs.Prelude.{◌≡◌, ◌≤◌, ◌-◌, length, Option, Some, None, IfSome, IfNone, map, option_map};
 ghost use Rattle.ia_lex.specs.Tokens.{lexeme_of};
@@ -37,7 +38,7 @@ pub fn atom<'a>(token: &Token<'a>) -> Option<Atom<'a>>
 
 /// What stands behind a term: a sign and terms, or nothing of this expression.
 #[cycle(terms)]
-#[tactic(auto, using(crate::proofs::TermLists::terms_one, crate::proofs::TermLists::terms_bad, crate::proofs::TermLists::terms_full, crate::proofs::TermLists::terms_stop, crate::proofs::TermLists::terms_nil, crate::proofs::TermLists::terms_sign))]
+#[tactic(auto, using(crate::proofs::TermLists::term_steps))]
 fn behind_term<'a, 'b>(
     out: Expression<'a>,
     tokens: &'b [Token<'a>],
@@ -57,7 +58,7 @@ fn behind_term<'a, 'b>(
 
 /// What stands behind a sign: a term and what follows it.
 #[cycle(terms)]
-#[tactic(auto, using(crate::proofs::TermLists::terms_one, crate::proofs::TermLists::terms_bad, crate::proofs::TermLists::terms_full, crate::proofs::TermLists::terms_stop, crate::proofs::TermLists::terms_nil, crate::proofs::TermLists::terms_sign))]
+#[tactic(auto, using(crate::proofs::TermLists::term_steps))]
 fn behind_sign<'a, 'b>(
     out: Expression<'a>,
     negative: bool,

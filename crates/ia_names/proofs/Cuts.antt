@@ -70,3 +70,6 @@ rest_follows front (x ∷ xs) zero h l = absurd (omega (arith, l))
 rest_follows front (x ∷ xs) (suc n) h l =
     let short : n ≡ prefix_len is_letter xs = omega (arith, l) in
     dot_next n xs front short
+
+-- letters that are passed one by one
+pub ruleset letter_steps = (letter_step, letter_stop, letter_end)

@@ -1,4 +1,4 @@
-//! Where names are cut.
+//! Where names are cut: at their dots, so that a local label and the label that it belongs to share a part.
 
 ghost use Rattle.std.specs.Prelude.{◌≡◌, ◌≤◌, ◌<◌, ◌+◌, length, drop};
 ghost use Rattle.std.specs.List.{prefix_len};
@@ -16,7 +16,7 @@ pub fn is_local(own: &[u8]) -> bool
 }
 
 /// How long the first part of a name is: up to the next dot behind its first letter.
-#[tactic(auto, using(crate::proofs::Cuts::letter_step, crate::proofs::Cuts::letter_stop, crate::proofs::Cuts::letter_end))]
+#[tactic(auto, using(crate::proofs::Cuts::letter_steps))]
 pub fn part_length(name: &[u8]) -> usize
     requires { 0 < length name.now }
     ensures long { result ≡ 1 + prefix_len is_letter (drop 1 name.now) }

@@ -1,4 +1,5 @@
-//! The names of a source.
+//! The names of a source so far: each part has a number, by the number of what stands before it. One table for all, so
+//! that a name costs the time of its own letters.
 
 ghost use Rattle.std.specs.Prelude.{◌≡◌, ◌<◌, [], get_or, length};
 ghost use Rattle.ia_names.specs.Tries.{wholes, IsTree};

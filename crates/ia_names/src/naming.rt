@@ -1,4 +1,5 @@
-//! The symbols of names.
+//! The symbols of names, as lines are read from the top: a label, then the local ones that belong to it. How many parts
+//! there may be can be limited.
 
 use crate::cut::is_local;
 use crate::names::Names;

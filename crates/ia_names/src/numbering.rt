@@ -1,4 +1,5 @@
-//! The numbers of names.
+//! The numbers of names, part by part from the left: what stands before has a number, and with the part it has the next
+//! one, found or new.
 
 ghost use Rattle.std.specs.Prelude.{◌≡◌, ◌<◌, ◌++◌, [], true, get_or, length, IfOk};
 ghost use Rattle.ia_names.specs.Tries.{wholes, is_part, may_follow, IsTree, AreKept};

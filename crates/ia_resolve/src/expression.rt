@@ -1,4 +1,5 @@
-//! The values of expressions.
+//! The values of expressions, as whole numbers first, so that no sum wraps before it is compared with its range. A
+//! symbol without a value, and a number that is too large, are faults; with one it counts as 0.
 
 ghost use Rattle.std.specs.Prelude.{◌≡◌, ◌≤◌, ◌-◌, ◌*◌, ◌^◌, pos, neg_ℤ, ◌≤ℤ◌, length};
 ghost use Rattle.ia_item.specs.Expressions.{is_unknown, is_huge, value_in, any_unknown, any_huge, any_symbol};

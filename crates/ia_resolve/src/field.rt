@@ -1,4 +1,5 @@
-//! Fields of instructions.
+//! Fields of instructions: what the number goes into, and its range there. A jump's number is a distance, which only
+//! its place tells.
 
 ghost use Rattle.std.specs.Prelude.{◌≡◌, ◌+◌, ◌-◌, ◌≤◌, ◌<◌, ◌^◌, ℤ, pos, negsuc, ◌≤ℤ◌, IsTrue};
 ghost use Rattle.ia_insn.specs.Encoding.{fits_short};

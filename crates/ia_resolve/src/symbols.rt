@@ -1,4 +1,4 @@
-//! The values of symbols.
+//! The values of symbols: a trait, so that an expression is read with none of them, or with those of a table.
 
 ghost use Rattle.std.specs.Prelude.{◌≡◌, Option, None, ℤ};
 ghost use Rattle.ia_item.specs.declared.symbol.Symbol.{Symbol as SymbolOf};

@@ -88,3 +88,6 @@ pieces_step xs place end h e w =
     take_all zero (x ∷ l) f = absurd (omega arith)
     take_all (suc n) [] f = absurd (omega arith)
     take_all (suc n) (x ∷ l) f = ap (λ m. x ∷ m) (take_all n l (omega arith))
+
+-- bytes up to a comma
+pub ruleset comma_steps = (goes_step, goes_stop, goes_end)

@@ -64,3 +64,9 @@ behind_bad m ps neg register [] p n e f = refl
 behind_bad m ps neg register (x ∷ xs) p n e f =
     ap (λ q. by_piece m ps neg register q (λ m ps n. memory_from n m ps None (map lexeme_of xs))) (sym e)
     ∙ ap (λ j. by_new_piece j n (λ m ps n. memory_from n m ps None (map lexeme_of xs))) (sym f)
+
+-- a term for which there is room, or none
+pub ruleset term_rooms = (one_more, has_room, is_full)
+
+-- what stands behind a piece
+pub ruleset behind_pieces = (behind_some, behind_none, behind_bad)

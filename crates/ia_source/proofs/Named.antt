@@ -21,3 +21,6 @@ named_stop name w xs i x h e =
 pub named_end : {A : Type 0} (name : A → List ℕ) (w : List ℕ) (xs : List A) (i : ℕ) → length xs ≤ i
     → find_named name (drop i xs) w ≡ None
 named_end name w xs i h = at_drop_all (λ ys. find_named name ys w) xs i h
+
+-- a list of names that is gone through
+pub ruleset named_steps = (named_step, named_stop, named_end)

@@ -96,3 +96,6 @@ no_room os p ps all s ns ds a e h = ap (operands_from os) a ∙ by_read (operand
         ap (λ r. by_operand os r (λ more. operands_from more ps)) q
         ∙ ap (λ r. by_operands (option_map (with_terms os o.shape o.terms) r) (λ more. operands_from more ps))
         (ap (with_shape os.shapes) (sym here) ∙ sym h)
+
+-- operands that are read one by one
+pub ruleset operand_steps = (one_more, unread, no_room)

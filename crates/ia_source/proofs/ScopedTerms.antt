@@ -39,3 +39,6 @@ pub twice : (scope : List ℕ) (xs : List Term)
     → map (scoped_term scope) xs ≡ map (term_in_scope scope) (map term_content xs)
 twice scope [] = refl
 twice scope (x ∷ xs) = ap (λ l. scoped_term scope x ∷ l) (twice scope xs)
+
+-- terms that get their scope one by one
+pub ruleset scoped_steps = (step, finish, twice)

@@ -1,4 +1,4 @@
-//! What stands between commas.
+//! What stands between commas: a line's tokens are cut at the first one. A comma in quotes is part of its token.
 
 ghost use Rattle.std.specs.Prelude.{◌≡◌, ◌∷◌, ◌≤◌, length, map};
 ghost use Rattle.std.specs.List.{prefix_len};
@@ -18,7 +18,7 @@ pub fn is_mark(mark: u8, token: &Token) -> bool
 }
 
 /// How far the first comma is.
-#[tactic(auto, using(crate::proofs::Commas::goes_step, crate::proofs::Commas::goes_stop, crate::proofs::Commas::goes_end))]
+#[tactic(auto, using(crate::proofs::Commas::comma_steps))]
 pub fn comma_index(tokens: &[Token]) -> usize
     ensures long { result ≡ prefix_len goes_on tokens.now }
     ensures within { result ≤ length tokens.now }

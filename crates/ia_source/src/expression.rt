@@ -38,7 +38,7 @@ fn term_in<'a>(names: &mut Names<'a>, term: &Term<'a>) -> Result<ScopedTerm, All
 }
 
 /// The expression that stands behind a label.
-#[tactic(auto, using(crate::proofs::ScopedTerms::step, crate::proofs::ScopedTerms::finish, crate::proofs::ScopedTerms::twice))]
+#[tactic(auto, using(crate::proofs::ScopedTerms::scoped_steps))]
 pub fn expression_in<'a>(
     alloc: Global,
     names: &mut Names<'a>,

@@ -66,7 +66,7 @@ static REGISTERS_AND_SIZES: [(&str, Keyword); 18] = [
 ];
 
 /// The condition among these whose printed name a word is.
-#[tactic(auto, using(crate::proofs::Named::named_step, crate::proofs::Named::named_stop, crate::proofs::Named::named_end))]
+#[tactic(auto, using(crate::proofs::Named::named_steps))]
 fn find_condition(conditions: &[Condition], word: &[u8]) -> Option<Condition>
     ensures { result ≡ find_named condition_name conditions.now word.now }
 {
@@ -117,7 +117,7 @@ fn conditional(word: &[u8]) -> Option<Mnemonic>
 }
 
 /// The mnemonic among these, which have no condition, whose printed name a word is.
-#[tactic(auto, using(crate::proofs::Named::named_step, crate::proofs::Named::named_stop, crate::proofs::Named::named_end))]
+#[tactic(auto, using(crate::proofs::Named::named_steps))]
 fn find_mnemonic(mnemonics: &[Mnemonic], word: &[u8]) -> Option<Mnemonic>
     ensures { result ≡ find_named stem mnemonics.now word.now }
 {

@@ -1,4 +1,5 @@
-//! The entries of a line.
+//! The entries of a line, in the order in which they stand on it: its label, and then an item or the values of `db` and
+//! `dd` one by one. What it knows of the lines above comes in, and what the next one has to know comes out.
 
 ghost use Rattle.std.specs.Prelude.{◌≡◌, ℕ, List, Ok, Some, false, map, option_map, MatchResult, IfOk};
 ghost use Rattle.ia_names.specs.Namings.{Naming, IsNaming, Grows};

@@ -1,4 +1,5 @@
-//! Operands in memory.
+//! Operands in memory, between brackets: registers, one of them scaled, and numbers and symbols, in any order, added up
+//! term by term. Whether a displacement fits is asked when symbols have values.
 
 ghost use Rattle.std.specs.Prelude.{◌≡◌, ◌≤◌, ◌<◌, length, map, option_map, IfSome, Some, None, false, not};
 ghost use Rattle.ia_lex.specs.Tokens.{lexeme_of};
@@ -112,7 +113,7 @@ fn with_scaled(mem: Mem, register: u8, scale: u8) -> Option<Mem>
 }
 
 /// One more term, of at most 16.
-#[tactic(auto, using(crate::proofs::MemoryOperands::one_more, crate::proofs::MemoryOperands::has_room, crate::proofs::MemoryOperands::is_full))]
+#[tactic(auto, using(crate::proofs::MemoryOperands::term_rooms))]
 fn push_term<'a>(terms: &mut Expression<'a>, negative: bool, atom: Atom<'a>) -> Option<()>
     ensures { option_map (λ _. terms_content terms.new) result
         ≡ with_term (terms_content terms.old) negative (atom_content atom.entry) }
@@ -248,7 +249,7 @@ fn behind_piece<'a>(mem: Mem, terms: &mut Expression<'a>, tokens: &[Token<'a>]) 
 
 /// What stands behind a sign: a piece and what follows it.
 #[cycle(memory)]
-#[tactic(auto, using(crate::proofs::MemoryOperands::behind_some, crate::proofs::MemoryOperands::behind_none, crate::proofs::MemoryOperands::behind_bad))]
+#[tactic(auto, using(crate::proofs::MemoryOperands::behind_pieces))]
 fn behind_sign<'a>(
     mem: Mem,
     terms: &mut Expression<'a>,

@@ -1,4 +1,5 @@
-//! Operands.
+//! Operands of an instruction, cut at commas, from the left: words that decide the size, registers, places in memory,
+//! and numbers. Which of them an instruction takes is `ia_form`'s.
 
 ghost use Rattle.std.specs.Prelude.{◌≡◌, [], Some, map, option_map};
 ghost use Rattle.ia_lex.specs.Tokens.{lexeme_of};
@@ -158,7 +159,7 @@ fn with_shape(shapes: OperandShapes, shape: OperandShape) -> Option<OperandShape
 }
 
 /// Takes in the operands that tokens are, behind others.
-#[tactic(auto, using(crate::proofs::OperandLists::one_more, crate::proofs::OperandLists::unread, crate::proofs::OperandLists::no_room))]
+#[tactic(auto, using(crate::proofs::OperandLists::operand_steps))]
 fn more_operands<'a>(operands: &mut Operands<'a>, tokens: &[Token<'a>]) -> Option<()>
     ensures { option_map (λ _. operands_content operands.new) result
         ≡ operands_from (operands_content operands.old) (between_commas (map lexeme_of tokens.now)) }

@@ -1,4 +1,4 @@
-//! Whole sources.
+//! Whole sources: lines from the first to the last, each with what those above it left, until one is wrong.
 
 ghost use Rattle.std.specs.Prelude.{MatchResult, IfOk};
 ghost use Rattle.ia_item.specs.Fits.{AllFit};

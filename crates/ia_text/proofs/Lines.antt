@@ -82,3 +82,6 @@ pub place_inside : (code : List ℕ) (place shown next : ℕ) → place < length
     → shown ≤ length (take (length code - place) (drop place code)) → next ≡ shown → place + next ≤ length code
 place_inside code place shown next inside within same =
     omega (arith, length-take (length code - place) (drop place code), length-drop place code)
+
+-- of no bytes nothing is written
+pub ruleset no_bytes = (no_line, none_shown)

@@ -96,7 +96,7 @@ fn push_line(page: &mut Page, code: &[u8], at: u32) -> u8
 /// Writes the first listing line of some code at an address, and tells how many bytes of the code it shows: those of
 /// the instruction in front, or one where there is none, which is written as `db`. Of no bytes it writes nothing and
 /// tells 0. On 5 `Write` a beginning of the line was written, and the count of failures rose.
-#[tactic(auto, using(crate::proofs::Lines::no_line, crate::proofs::Lines::none_shown, text_out::proofs::Writing::wrote_none))]
+#[tactic(auto, using(crate::proofs::Lines::no_bytes, text_out::proofs::Writing::wrote_none))]
 pub fn write_line<O: Out>(code: &[u8], at: u32, out: &mut O) -> Result<u8, WriteFault>
     ensures text { Writes (O.device out.old) (O.device out.new) (listing_line code.now at) result }
     ensures shown { IfOk result (λ n. n ≡ shown_bytes code.now) }

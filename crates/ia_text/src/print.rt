@@ -1,4 +1,5 @@
-//! The text of an instruction.
+//! The text of an instruction, by the kind of its operation: the word, then operands as the assembler reads them. A
+//! jump is told by its target, for which the instruction's address comes in.
 
 ghost use Rattle.std.specs.Prelude.{◌≡◌, ◌+◌, ◌≤◌, ◌++◌, length};
 ghost use Rattle.arrayvec.specs.ArrayVec.{array_vec_len};

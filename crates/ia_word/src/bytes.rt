@@ -1,4 +1,4 @@
-//! Bytes of a doubleword.
+//! A doubleword and its four bytes, the lowest first, and what one byte says of a number: its sign and its parity.
 
 ghost use Rattle.std.specs.Prelude.{◌≡◌, ◌==◌, ◌%◌, count_ones};
 ghost use Rattle.ia_word.specs.Bytes.{sign_extended, long_bytes, long_of};

@@ -1,4 +1,4 @@
-//! The general registers by number.
+//! The eight general registers by the number that an instruction's field has for them.
 
 /// EAX, and where the operand is a byte AL. The number of each register is that of its field in an instruction
 /// (SDM volume 2, "ModR/M and SIB Bytes", table of register codes).

@@ -1,4 +1,5 @@
-//! How wide an operand is.
+//! How wide an operand is, a byte or a doubleword, and what follows from that: how many values it has, and how many
+//! bytes of memory it takes.
 
 ghost use Rattle.std.specs.Prelude.{◌≡◌, ◌^◌};
 ghost use Rattle.ia_word.specs.Width.{bits_of, bytes_of};
