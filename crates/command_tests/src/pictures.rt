@@ -5,8 +5,9 @@ use std::alloc::{AllocError, Global};
 use std::str;
 use std::test::Fail;
 use text_out::ToVec;
-use tm_model::{Interference, Outcome};
-use tm_timeline::{Label, LineLabels, LineUse, Rows, Timeline, Window};
+use tm_model::{Hit, Interference, Outcome};
+use tm_sets::Kind;
+use tm_timeline::{Label, LineLabels, Rows, Timeline, Window};
 
 // A source whose line 6 is called `a<b`.
 #[derive(Clone, Copy, Debug)]
@@ -40,9 +41,9 @@ fn told(alloc: Global, window: Window) -> Result<Timeline, AllocError> {
     let mut timeline = Timeline::new(alloc, 2, window)?;
     timeline.note(0, Outcome::Begun)?;
     timeline.note(0, Outcome::Inside)?;
-    let on = Some(LineUse {
+    let on = Some(Hit {
         line: 6,
-        is_write: true,
+        kind: Kind::Write,
     });
     timeline.hit(0, 1, on)?;
     timeline.note(1, Outcome::Plain)?;

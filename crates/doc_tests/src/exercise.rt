@@ -1,7 +1,9 @@
 //! One command of a document, run.
 
+use crate::document::Exercise;
+use crate::printed::is_as_shown;
 use crate::reply::{ALL, reply_to};
-use doc_lines::{CommandWords, Exercise, is_as_shown, line_of};
+use crate::words::{CommandWords, line_of};
 use elide_program::Paths;
 use elide_test::SharedPaths;
 use std::rt::Files;

@@ -6,15 +6,21 @@
 //! `rows.txt`, says its form at its head; its commands run over files in memory, and status, standard output and
 //! standard error are compared.
 //!
-//! Promises no more than safety: it is a test. Stands on `elide_trial`, whose commands it runs, and on `doc_lines`.
+//! Promises no more than safety: it is a test. What a document or a table shows is read by `document` and `table` alone,
+//! and `wanted` and `printed` compare; none of these calls a command. Stands on `elide_trial`, whose commands it runs.
 #![tactic(auto)]
 
+mod document;
 mod exercise;
 mod memory;
+mod printed;
 mod reply;
 mod rows;
+mod table;
+mod wanted;
+mod words;
 
-use doc_lines::{exercises, parts};
+use document::exercises;
 use elide_program::Paths;
 use elide_test::{SharedPaths, SystemPaths};
 use exercise::{Verdict, run};
@@ -25,6 +31,7 @@ use std::rt::Files;
 use std::sync::Wait;
 use std::thread::Threads;
 use std::{fs, io};
+use table::parts;
 
 /// The documents whose commands are run, in this order, so that a later one may read what an earlier one wrote. The
 /// last is there for the tests alone.

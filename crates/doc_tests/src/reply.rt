@@ -1,6 +1,7 @@
 //! What a command line of `elide` comes to.
 
-use doc_lines::{Devices, Room, Told};
+use crate::wanted::{Devices, Room, Told};
+use elide_command::Streams;
 use elide_device::{Silent, Surroundings, Terminals};
 use elide_program::Paths;
 use elide_test::SharedPaths;
@@ -59,16 +60,10 @@ pub fn reply_to<R: Threads + Wait + Sync + AllocGlobal, P: Paths + SharedPaths +
     });
     let mut out = ToWriter::new(Sheet::new(alloc, room.out));
     let mut err = ToWriter::new(Sheet::new(alloc, room.err));
-    let status = command(
-        rt,
-        words.as_slice(),
-        paths,
-        &mut input,
-        &mut out,
-        &mut err,
-        surroundings_of(room.devices),
-        &mut Silent,
-    );
+    let mut progress = Silent;
+    let mut streams = Streams::new(paths, &mut input, &mut out, &mut err, &mut progress);
+    let surroundings = surroundings_of(room.devices);
+    let status = command(rt, words.as_slice(), &mut streams, surroundings);
     Ok(Reply {
         status,
         out: out.writer.text(alloc)?,

@@ -2,7 +2,9 @@
 
 use crate::memory::{Content, Memory};
 use crate::reply::{Reply, reply_to};
-use doc_lines::{PartHead, Room, TablePart, is_wanted, line_of, room_of};
+use crate::table::{PartHead, TablePart};
+use crate::wanted::{Room, is_wanted, room_of};
+use crate::words::line_of;
 use elide_program::Paths;
 use std::alloc::{AllocError, Global};
 use std::io;

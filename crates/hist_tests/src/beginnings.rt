@@ -1,5 +1,6 @@
 //! A history of two cores, and each of its beginnings.
 
+use crate::increment::INCREMENT;
 use ia_image::load;
 use std::test::Fail;
 use tm_core::Limits;
@@ -9,12 +10,6 @@ const LIMITS: Limits = Limits {
     read_lines: 512,
     write_lines: 512,
 };
-
-// XBEGIN at 100h with fallback 115h, a load of [1000h], INC EAX, a store to [1000h], XEND at 111h, and two HLT.
-const INCREMENT: [u8; 22] = [
-    0xc7, 0xf8, 0x0f, 0, 0, 0, 0xa1, 0, 0x10, 0, 0, 0x40, 0xa3, 0, 0x10, 0, 0, 0x0f, 0x01, 0xd5,
-    0xf4, 0xf4,
-];
 
 #[test]
 fn each_beginning(rt: HostRuntime) -> Result<(), Fail> {

@@ -1,5 +1,6 @@
 //! Steps on a board, written by hand. Code lies from 100h on, in a memory of 65,536 bytes.
 
+use crate::increment::INCREMENT;
 use ia_image::{Program, load};
 use std::alloc::Global;
 use std::process::Abort;
@@ -13,12 +14,6 @@ const LIMITS: Limits = Limits {
     read_lines: 512,
     write_lines: 512,
 };
-
-// XBEGIN at 100h with fallback 115h, a load of [1000h], INC EAX, a store to [1000h], XEND at 111h, and two HLT.
-const INCREMENT: [u8; 22] = [
-    0xc7, 0xf8, 0x0f, 0, 0, 0, 0xa1, 0, 0x10, 0, 0, 0x40, 0xa3, 0, 0x10, 0, 0, 0x0f, 0x01, 0xd5,
-    0xf4, 0xf4,
-];
 
 fn program(rt: &impl Abort, alloc: Global, entries: &[u32]) -> Program {
     load(alloc, &INCREMENT, 0x100, 22, 65536, entries).expect(rt, "the program is loaded")

@@ -10,6 +10,8 @@ mod beginnings;
 #[cfg(test)]
 mod boards;
 #[cfg(test)]
+mod increment;
+#[cfg(test)]
 mod memory;
 #[cfg(test)]
 mod schedules;

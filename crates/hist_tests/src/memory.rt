@@ -2,6 +2,7 @@
 //! does what it does with ample memory. `scripts/refuse-memory` refuses each request of these tests in turn; with ample
 //! memory nothing is refused, and they show what the calls give.
 
+use crate::increment::INCREMENT;
 use ia_image::{ImageFault, LoadFault, Program, load, read_image};
 use std::alloc::Global;
 use std::process::Abort;
@@ -16,12 +17,6 @@ const LIMITS: Limits = Limits {
     read_lines: 16,
     write_lines: 16,
 };
-
-// XBEGIN at 100h with fallback 115h, a load of [1000h], INC EAX, a store to [1000h], XEND at 111h, and two HLT.
-const INCREMENT: [u8; 22] = [
-    0xc7, 0xf8, 0x0f, 0, 0, 0, 0xa1, 0, 0x10, 0, 0, 0x40, 0xa3, 0, 0x10, 0, 0, 0x0f, 0x01, 0xd5,
-    0xf4, 0xf4,
-];
 
 /// The program, on two cores.
 fn program(rt: &impl Abort, alloc: Global) -> Program {

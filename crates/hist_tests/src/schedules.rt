@@ -17,6 +17,13 @@ fn under(core: u8, interference: Interference) -> Pick {
     }
 }
 
+fn drain(core: u8) -> Pick {
+    Pick {
+        core,
+        event: Some(Event::Drain),
+    }
+}
+
 #[test]
 fn steps_are_written(rt: HostRuntime) -> Result<(), WriteFault> {
     let mut out = ToVec::new(Vec::new(rt.alloc()));
@@ -39,6 +46,23 @@ fn steps_under_events_are_written(rt: HostRuntime) -> Result<(), WriteFault> {
     let mut out = ToVec::new(Vec::new(rt.alloc()));
     write_schedule(&picks, &mut out)?;
     let text = b"schedule 3\n0i*2 0 100e 100s 100*2\n";
+    assert_eq!(rt; out.bytes.as_slice(), text.as_slice());
+    Ok(())
+}
+
+// Drains are of the third form, as aborts are.
+#[test]
+fn drains_are_written(rt: HostRuntime) -> Result<(), WriteFault> {
+    let picks = [
+        plain(0),
+        drain(0),
+        drain(0),
+        under(0, Interference::Snoop),
+        drain(255),
+    ];
+    let mut out = ToVec::new(Vec::new(rt.alloc()));
+    write_schedule(&picks, &mut out)?;
+    let text = b"schedule 3\n0 0d*2 0s 255d\n";
     assert_eq!(rt; out.bytes.as_slice(), text.as_slice());
     Ok(())
 }
@@ -97,45 +121,48 @@ fn steps_under_events_are_read(rt: HostRuntime) -> Result<(), ScheduleFault> {
     Ok(())
 }
 
+#[test]
+fn drains_are_read(rt: HostRuntime) -> Result<(), ScheduleFault> {
+    let runs = read_schedule(rt.alloc(), b"schedule 3\n0 0d*2 255d\n")?;
+    let listed = [plain(0), drain(0), drain(0), drain(255)];
+    assert_eq!(rt; runs.as_slice(), listed.as_slice());
+    let steps = read_steps(rt.alloc(), b"0d 015d")?;
+    assert_eq!(rt; steps.as_slice(), [drain(0), drain(15)].as_slice());
+    assert_eq!(rt; pick_of_word(b"9d"), Some(drain(9)));
+    assert_eq!(rt; pick_of_word(b"d"), None);
+    assert_eq!(rt; pick_of_word(b"9D"), None);
+    Ok(())
+}
+
 // No event stands in the first two forms, and no other letter in the third.
 #[test]
 fn no_steps(rt: HostRuntime) {
+    // Each with the line that breaks the form.
     let refused = [
-        (
-            b"schedule 1\n0i\n".as_slice(),
-            ScheduleFault::BadSchedule(2),
-        ),
-        (
-            b"schedule 2\n0\n0i*2\n".as_slice(),
-            ScheduleFault::BadSchedule(3),
-        ),
-        (
-            b"schedule 3\n0i\n0d\n".as_slice(),
-            ScheduleFault::BadSchedule(3),
-        ),
-        (
-            b"schedule 3\n0ii\n".as_slice(),
-            ScheduleFault::BadSchedule(2),
-        ),
-        (
-            b"schedule 3\n0*2i\n".as_slice(),
-            ScheduleFault::BadSchedule(2),
-        ),
-        (
-            b"schedule 3\n256s\n".as_slice(),
-            ScheduleFault::BadSchedule(2),
-        ),
-        (
-            b"schedule 3\n0i*16777216\n0\n".as_slice(),
-            ScheduleFault::TooManySteps(3),
-        ),
-        (b"schedule 4\n0\n".as_slice(), ScheduleFault::BadSchedule(1)),
+        (b"schedule 1\n0i\n".as_slice(), 2),
+        (b"schedule 2\n0\n0i*2\n".as_slice(), 3),
+        (b"schedule 2\n0\n0d\n".as_slice(), 3),
+        (b"schedule 3\n0d\n0x\n".as_slice(), 3),
+        (b"schedule 3\n0id\n".as_slice(), 2),
+        (b"schedule 3\n0ii\n".as_slice(), 2),
+        (b"schedule 3\n0*2i\n".as_slice(), 2),
+        (b"schedule 3\n256s\n".as_slice(), 2),
+        (b"schedule 4\n0\n".as_slice(), 1),
     ];
-    for (text, fault) in &refused {
+    for (text, line) in &refused {
         match read_schedule(rt.alloc(), text) {
             Ok(_picks) => assert!(rt; false, "a text that breaks the form is read"),
-            Err(told) => assert_eq!(rt; told, *fault),
+            Err(told) => assert_eq!(rt; told, ScheduleFault::BadSchedule(*line)),
         }
+    }
+}
+
+#[test]
+fn too_many_steps(rt: HostRuntime) {
+    let text = b"schedule 3\n0i*16777216\n0\n".as_slice();
+    match read_schedule(rt.alloc(), text) {
+        Ok(_picks) => assert!(rt; false, "one step too many is read"),
+        Err(told) => assert_eq!(rt; told, ScheduleFault::TooManySteps(3)),
     }
 }
 

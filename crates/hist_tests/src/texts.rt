@@ -1,6 +1,7 @@
 //! Texts with numbers that no command has, and serial runs of histories that were written by hand. All other lines,
 //! schedules and dumps the worked rows of `doc_tests` show.
 
+use crate::increment::INCREMENT;
 use ia_image::{LoadFault, Program, load};
 use std::alloc::Global;
 use text_out::{ToVec, WriteFault};
@@ -21,12 +22,6 @@ fn texts_are_written(rt: HostRuntime) -> Result<(), WriteFault> {
     assert_eq!(rt; out.bytes.as_slice(), text.as_slice());
     Ok(())
 }
-
-// XBEGIN at 100h with fallback 115h, a load of [1000h], INC EAX, a store to [1000h], XEND at 111h, and two HLT.
-const INCREMENT: [u8; 22] = [
-    0xc7, 0xf8, 0x0f, 0, 0, 0, 0xa1, 0, 0x10, 0, 0, 0x40, 0xa3, 0, 0x10, 0, 0, 0x0f, 0x01, 0xd5,
-    0xf4, 0xf4,
-];
 
 // Two cores, each of which runs the increment.
 fn increments(alloc: Global) -> Result<Program, LoadFault> {

@@ -351,6 +351,7 @@ fn number_of(outcome: &Outcome) -> u64 {
         Outcome::Inside => 5,
         Outcome::Committed => 6,
         Outcome::Loaded => 7,
+        Outcome::Drained => 8,
         Outcome::Aborted(status) => u64::from(*status).wrapping_add(1 << 32),
         Outcome::AbortedBy(_, status) => u64::from(*status).wrapping_add(1 << 33),
     }

@@ -6,12 +6,11 @@ use std::alloc::Global;
 use std::process::Abort;
 use tm_core::Machine;
 
-/// Runs in the form of those of `both`: a transaction with a load and a store, an instruction of two steps, a core that
-/// is condemned, and one that halts.
+/// Runs in the form of those of `both`, after each step of which some core is shown otherwise.
 const RUNS: &str = "\
-c7f80f000000a10010000040a3001000000f01d5f4f4; 100 100; 512 512; 0 0 0 0 0 0 1\n\
-ff0500100000f4; 100 100; 512 512; 0 1 0 1 0 1\n\
-c7f80f000000a10010000040a3001000000f01d5f4f4; 100 100; 512 512; 0 0 1 1 1 1 0 0 1\n";
+a transaction with a load and a store; c7f80f000000a10010000040a3001000000f01d5f4f4; 100 100; 512 512; 0 0 0 0 0 0 1\n\
+an instruction of two steps on two cores; ff0500100000f4; 100 100; 512 512; 0 1 0 1 0 1\n\
+a core that is condemned; c7f80f000000a10010000040a3001000000f01d5f4f4; 100 100; 512 512; 0 0 1 1 1 1 0 0 1\n";
 
 /// A machine after so many steps of a run.
 fn machine_after(rt: &impl Abort, alloc: Global, run: &Run, steps: usize) -> Machine {

@@ -29,9 +29,10 @@ fn cores_that_there_are_not(rt: HostRuntime) {
             Err(RunFault::NoSuchCore)
         )
     );
-    assert_eq!(rt; machine.hit(1, 0), Err(NoSuchCore));
-    assert_eq!(rt; machine.hit(0, 1), Err(NoSuchCore));
-    assert_eq!(rt; machine.abort_reason(1), Err(NoSuchCore));
+    assert!(rt; machine.preview(1).is_err());
+    let preview = machine.preview(0).expect(&rt, "previews");
+    assert_eq!(rt; machine.hit_by(&preview, 0), Ok(None));
+    assert_eq!(rt; machine.hit_by(&preview, 1), Err(NoSuchCore));
     assert_eq!(rt; machine.counts(1), Err(NoSuchCore));
     assert_eq!(rt; machine.state(0), Ok(CoreState::Running));
     assert_eq!(rt; MachineFault::BadLimits.code(), 40);
