@@ -18,7 +18,7 @@ use Rattle.tm_hist.specs.Board.{IsBoard, IsHistory, ShownBoard, bad_limit, stop_
 use Rattle.tm_hist.specs.History.{pair_of}
 use Rattle.tm_hist.specs.Replay.{IsRefused, IsReplay, Replays, cores_of}
 use Rattle.tm_hist.specs.Serial.{IsStuck, base_of, core_at, stop_of}
-use Rattle.tm_hist.proofs.RunFronts.{flat_opening, none_pending, run_front, same_run}
+use Rattle.tm_hist.proofs.RunFronts.{none_pending, run_front, same_run}
 use Rattle.tm_model.specs.declared.outcome.Outcome.{Outcome}
 use Rattle.tm_model.specs.declared.outcome.CoreState.{CoreState}
 use Rattle.tm_model.specs.declared.outcome.CoreState.TheVariants.{Running, Condemned, Stopped as AtStop}
@@ -112,7 +112,7 @@ restarted p l limit before after history old new made h room none same stands =
 free_run : (b : ShownBoard)
     → (h : IsHistory b) → run (program_setting b.program 0 0 0) (opening_state b.program) b.history ≡ Some h.end
 free_run b h = sym (same_run (code_of b.program) b.program.base b.program.mem_size b.limits.read_lines
-    b.limits.write_lines b.history (flat_opening b.program)) ∙ h.is_run
+    b.limits.write_lines 0 b.history (opening_state b.program)) ∙ h.is_run
 
 -- what a core shows of its registers before a transaction, and of its stop
 record Shows (x : Core) (v : View) : Type 0 where
@@ -152,23 +152,26 @@ shows k m (Opened s n) (Some depth) v e =
 shows k m (Opened s n) None v e =
     option_and_then_some (view_inside s) (isolated_body k s m n) v e (λ b is e2. opened s n b v e2)
 
-pub replays : (b : ShownBoard) (s : Serial) → IsHistory b → IsReplay b.program b.history s → Replays b s
+pub replays : (b : ShownBoard) (s : Serial) → IsHistory b → IsReplay b.program 0 b.history s → Replays b s
 replays b s h r =
     let same : r.end ≡ h.end = same_Some r.end h.end (sym r.ran ∙ free_run b h) in
     let size : length (cores_of s) ≡ length b.machine.views =
-    r.agrees.count ∙ ap (λ (x : State). x.count) same ∙ sym h.stands.same_count in
+    r.holds.count ∙ ap (λ (x : State). x.count) same ∙ sym h.stands.same_count in
     let each : (j : ℕ) → j < length b.machine.views → Shows (core_at (cores_of s) j) (view_at b.machine j) = λ j below.
     let within : j < length (cores_of s) = omega arith in
-    let core : core_at (cores_of s) j ≡ h.end.cores j = r.agrees.each j within ∙ ap (λ (x : State). x.cores j) same in
+    let core : core_at (cores_of s) j ≡ h.end.cores j = r.holds.each j within ∙ ap (λ (x : State). x.cores j) same in
     subst (λ (x : Core). Shows x (view_at b.machine j)) (sym core)
     (shows (machine_setting b.machine) (seen_by h.end j) (h.end.cores j)
     (doomed_at_end (program_setting b.program b.limits.read_lines b.limits.write_lines 0) (opening_state b.program)
     (λ _. None) b.history j) (view_at b.machine j) (h.stands.each j below)) in
     record {
-      memory = r.agrees.memory ∙ ap (λ (x : State). x.memory) same ∙ sym h.stands.same_memory;
+      memory = r.holds.memory ∙ ap (λ (x : State). x.memory) same ∙ sym h.stands.same_memory;
       count = size;
       regs = λ j below. (each j below).base;
       stops = λ j below. (each j below).stop;
+      pending = λ j below.
+          let within : j < length (cores_of s) = omega arith in
+          r.holds.pending j within ∙ ap (λ (x : State). x.pending j) same ∙ sym (h.stands.same_pending j below);
     }
 
 never_stuck : (b : ShownBoard) (i : ℕ) → IsHistory b
@@ -177,23 +180,23 @@ never_stuck b i h stuck = run_front (program_setting b.program 0 0 0) b.history 
     (free_run b h) stuck.stuck
 
 pub never_refused : (b : ShownBoard) (fault : SerialFault) → IsHistory b
-    → (fault ≡ NoMemory) ⊎ IsRefused b.program b.history fault → fault ≡ NoMemory
+    → (fault ≡ NoMemory) ⊎ IsRefused b.program 0 b.history fault → fault ≡ NoMemory
 never_refused b fault h (inl same) = same
 never_refused b (NotARun i) h (inr refused) = absurd (never_stuck b i h refused)
 never_refused b NoMemory h (inr refused) = refl
 
 -- the same of a program and a history that are the board's
 pub replays_at : (b : ShownBoard) (p : Program) (history : List (ℕ × Outcome)) (s : Serial) → IsHistory b
-    → p ≡ b.program → history ≡ b.history → IsReplay p history s → Replays b s
+    → p ≡ b.program → history ≡ b.history → IsReplay p 0 history s → Replays b s
 replays_at b p history s h same_program same_history r =
     replays b s h
-    (subst (λ (x : Program). IsReplay x b.history s) same_program
-    (subst (λ (x : List (ℕ × Outcome)). IsReplay p x s) same_history r))
+    (subst (λ (x : Program). IsReplay x 0 b.history s) same_program
+    (subst (λ (x : List (ℕ × Outcome)). IsReplay p 0 x s) same_history r))
 
 pub never_refused_at : (b : ShownBoard) (p : Program) (history : List (ℕ × Outcome)) (fault : SerialFault) → IsHistory b
     → p ≡ b.program → history ≡ b.history →
-    (fault ≡ NoMemory) ⊎ IsRefused p history fault → fault ≡ NoMemory
+    (fault ≡ NoMemory) ⊎ IsRefused p 0 history fault → fault ≡ NoMemory
 never_refused_at b p history fault h same_program same_history r =
     never_refused b fault h
-    (subst (λ (x : Program). (fault ≡ NoMemory) ⊎ IsRefused x b.history fault) same_program
-    (subst (λ (x : List (ℕ × Outcome)). (fault ≡ NoMemory) ⊎ IsRefused p x fault) same_history r))
+    (subst (λ (x : Program). (fault ≡ NoMemory) ⊎ IsRefused x 0 b.history fault) same_program
+    (subst (λ (x : List (ℕ × Outcome)). (fault ≡ NoMemory) ⊎ IsRefused p 0 x fault) same_history r))

@@ -2,6 +2,9 @@ mod UsualSteps
 pub mod Rows
 pub mod Bodies
 pub mod Runs
+pub mod QueueRuns
+pub mod QueueSteps
+pub mod SeenBytes
 pub mod RunFronts
 pub mod Stops
 pub mod Idles

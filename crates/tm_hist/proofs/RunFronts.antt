@@ -1,25 +1,28 @@
 -- A run asks nothing of how many lines a transaction may touch, and the beginnings of a run are runs.
 use Rattle.std.proofs.Common.{◌≡◌, ℕ, zero, suc, cond, ltb, List, [], ◌∷◌, take, Option, Some, None, refl, sym, ap, ◌∙◌}
+use Rattle.std.proofs.Common.{if◌then◌else◌}
 use Rattle.std.specs.Option.{option_and_then, option_map}
 use Rattle.std.proofs.lemmas.Option.{same_Some}
 use Rattle.ia_regs.specs.declared.Regs.{Regs}
 use Rattle.tm_model.specs.Isolated.{isolated_body, longer_body}
 use Rattle.tm_model.specs.Setting.{Setting, setting_of}
 use Rattle.ia_image.specs.Program.{ProgramValue as Program}
-use Rattle.tm_model.specs.State.{Closed, Core, Halted, Midway, Opened, State, opening_state}
-use Rattle.tm_model.specs.Steps.{after_commit, after_step_of, run, step}
+use Rattle.tm_model.specs.State.{Closed, Core, Halted, Midway, Opened, Pending, State, opening_state, seen_memory}
+use Rattle.tm_model.specs.Steps.{after_commit, after_step, after_step_of, must_wait, run, settled, state_with, step}
+use Rattle.tm_model.specs.Steps.{store_buffered}
 use Rattle.tm_model.proofs.WithoutBuffer as without
-use Rattle.tm_model.proofs.WithoutBuffer.{FlatState, flat_run, flat_step, flat_with, of_flat}
+use Rattle.tm_model.proofs.WithoutBuffer.{FlatState, flat_run, of_flat}
+use Rattle.tm_hist.proofs.QueueSteps.{by_rule}
 use Rattle.tm_model.specs.declared.outcome.Outcome.{Outcome}
 use Rattle.tm_model.specs.declared.outcome.Outcome.TheVariants.{Plain, Loaded, Stopped, Idle, Begun, Inside, Committed}
 use Rattle.tm_model.specs.declared.outcome.Outcome.TheVariants.{Aborted, AbortedBy, Drained}
 
-module _ (code : List ℕ) (base size reads writes : ℕ) where
+module _ (code : List ℕ) (base size reads writes stores : ℕ) where
   abbrev limited : Setting
-  limited = setting_of code base size reads writes 0
+  limited = setting_of code base size reads writes stores
 
   abbrev free : Setting
-  free = setting_of code base size 0 0 0
+  free = setting_of code base size 0 0 stores
 
   same_body : (s : Regs) (m : List ℕ) (n : ℕ) → isolated_body limited s m n ≡ isolated_body free s m n
   same_body s m zero = refl
@@ -68,28 +71,43 @@ module _ (code : List ℕ) (base size reads writes : ℕ) where
   same_moved m (Opened s n) (AbortedBy by status) = refl
   same_moved m (Opened s n) Drained = refl
 
-  same_step : (a : FlatState) (c : ℕ) (o : Outcome) → flat_step limited a c o ≡ flat_step free a c o
-  same_step a c o =
-      ap (λ x. cond (ltb c a.count) (option_map (flat_with a c) x) None) (same_moved a.memory (a.cores c) o)
+  same_rule : (m : List ℕ) (p : Pending) (x : Core) (o : Outcome) → by_rule limited m p x o ≡ by_rule free m p x o
+  same_rule m p x o =
+      ap (λ change. if must_wait free (seen_memory m p) p x o then None
+      else option_map (settled m p (store_buffered free (seen_memory m p) x o)) change)
+      (same_moved (seen_memory m p) x o)
 
-  same_then : (ps : List (ℕ × Outcome)) → ((a : FlatState) → flat_run limited a ps ≡ flat_run free a ps)
-      → (x : Option FlatState) →
-      option_and_then (λ b. flat_run limited b ps) x ≡ option_and_then (λ b. flat_run free b ps) x
+  -- with stores pending
+  same_after : (m : List ℕ) (p : Pending) (x : Core) (o : Outcome) →
+      after_step limited m p x o ≡ after_step free m p x o
+  same_after m p x Drained = refl
+  same_after m p x Plain = same_rule m p x Plain
+  same_after m p x Loaded = same_rule m p x Loaded
+  same_after m p x (Stopped why) = same_rule m p x (Stopped why)
+  same_after m p x Idle = same_rule m p x Idle
+  same_after m p x Begun = same_rule m p x Begun
+  same_after m p x Inside = same_rule m p x Inside
+  same_after m p x Committed = same_rule m p x Committed
+  same_after m p x (Aborted status) = same_rule m p x (Aborted status)
+  same_after m p x (AbortedBy by status) = same_rule m p x (AbortedBy by status)
+
+  same_step : (a : State) (c : ℕ) (o : Outcome) → step limited a c o ≡ step free a c o
+  same_step a c o =
+      ap (λ x. cond (ltb c a.count) (option_map (state_with a c) x) None)
+      (same_after a.memory (a.pending c) (a.cores c) o)
+
+  same_then : (ps : List (ℕ × Outcome)) → ((a : State) → run limited a ps ≡ run free a ps) → (x : Option State) →
+      option_and_then (λ b. run limited b ps) x ≡ option_and_then (λ b. run free b ps) x
   same_then ps f None = refl
   same_then ps f (Some b) = f b
 
-  same_flat : (ps : List (ℕ × Outcome)) (a : FlatState) → flat_run limited a ps ≡ flat_run free a ps
-  same_flat [] a = refl
-  same_flat (p ∷ ps) a = same_then ps (same_flat ps) (flat_step limited a p.0 p.1)
-      ∙ ap (option_and_then (λ b. flat_run free b ps)) (same_step a p.0 p.1)
-
-  pub same_run : (ps : List (ℕ × Outcome)) (a : FlatState) → run limited (of_flat a) ps ≡ run free (of_flat a) ps
-  same_run ps a =
-      without.same_run limited a ps refl ∙ ap (option_map of_flat) (same_flat ps a)
-      ∙ sym (without.same_run free a ps refl)
+  pub same_run : (ps : List (ℕ × Outcome)) (a : State) → run limited a ps ≡ run free a ps
+  same_run [] a = refl
+  same_run (p ∷ ps) a = same_then ps (same_run ps) (step limited a p.0 p.1)
+      ∙ ap (option_and_then (λ b. run free b ps)) (same_step a p.0 p.1)
 
 -- before the first step nothing is pending
-abbrev pub flat_opening : Program → FlatState
+abbrev flat_opening : Program → FlatState
 flat_opening p =
     record { memory = (opening_state p).memory; count = (opening_state p).count; cores = (opening_state p).cores }
 

@@ -1,6 +1,7 @@
 pub mod Machine
 pub mod Lines
 pub mod Serial
+pub mod Queues
 pub mod History
 pub mod Board
 pub mod BoardFaults

@@ -2,7 +2,8 @@
 //!
 //! A `Board` keeps that its machine is the run of its history, whose outcomes are the owed ones (`Board::is_run`),
 //! so each history replays: `serial` runs it on one flat memory, without buffers, sets or marks, and ends with the
-//! machine's memory, registers and stops, or names the first pair at which a list is no run. `Board::steps` makes
+//! machine's memory, registers and stops, or names the first pair at which a list is no run. `serial_with` is the same
+//! with a queue of pending stores a core, for histories of a machine with store buffers. `Board::steps` makes
 //! several steps of one core, a transaction among them as a whole where it can; `Board::step_under` makes one under
 //! an event from outside, `Board::step_by` the one that a pick tells of; `Board::restart` takes a board back before
 //! its first step. `first_steps` makes the first steps of a board's history once more, on a board of the same
@@ -15,15 +16,19 @@
 
 mod back;
 mod board;
+mod fences;
 mod flat;
 mod history;
 mod history_memory;
 mod lines;
 mod one_memory;
 mod pair;
+mod queued;
 mod replay;
+mod seen;
 mod serial_core;
 mod step;
+mod store_buffers;
 mod usual;
 mod whole;
 
@@ -37,3 +42,4 @@ pub use lines::{
 };
 pub use one_memory::serial;
 pub use replay::{Serial, SerialFault};
+pub use store_buffers::serial_with;

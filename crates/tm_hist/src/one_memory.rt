@@ -2,7 +2,8 @@
 //!
 //! Memory and the cores are made first, as before the first step; then each pair is a step of its core (`step`),
 //! and the first that is none ends the run with its index. No board is asked: whatever list comes in, it is a run
-//! or it is refused.
+//! or it is refused. No store is pending here, and a drain is refused: with store buffers the run is that of
+//! `store_buffers`.
 
 ghost use Rattle.std.specs.Prelude.{◌≡◌, ◌⊎◌, ◌-◌, ◌≤◌, ◌<◌, [], ◌∷◌, ◌++◌, length, map, Some, IfOk, OnOk};
 ghost use Rattle.std.specs.Prelude.{IfErr};
@@ -92,8 +93,8 @@ fn run_history(
     }
 }
 
-// The cores before the first step.
-fn first_cores(alloc: Global, program: &Program) -> Result<Vec<SerialCore>, SerialFault>
+/// The cores before the first step.
+pub fn first_cores(alloc: Global, program: &Program) -> Result<Vec<SerialCore>, SerialFault>
     ensures ok { IfOk result (λ cores. cores.items ≡ map (first_core program.now)
         (range_with_len 0 (length program.now.entries))) }
     ensures err { IfErr result (λ fault. fault ≡ SerialFault.NoMemory) }
@@ -110,9 +111,9 @@ fn first_cores(alloc: Global, program: &Program) -> Result<Vec<SerialCore>, Seri
 /// [`SerialFault::NotARun`] names the first pair at which the history is no run of the program;
 /// [`SerialFault::NoMemory`], where memory or the list of cores found no memory.
 pub fn serial(alloc: Global, program: &Program, history: History<'_>) -> Result<Serial, SerialFault>
-    ensures ok { IfOk result (λ s. IsReplay program.now (pairs_of history.entry) s) }
+    ensures ok { IfOk result (λ s. IsReplay program.now 0 (pairs_of history.entry) s) }
     ensures err { IfErr result (λ fault. (fault ≡ SerialFault.NoMemory)
-        ⊎ IsRefused program.now (pairs_of history.entry) fault) }
+        ⊎ IsRefused program.now 0 (pairs_of history.entry) fault) }
 {
     let code = Code {
         bytes: program.code(),
@@ -132,7 +133,11 @@ pub fn serial(alloc: Global, program: &Program, history: History<'_>) -> Result<
         &mut cores,
         history,
     ) {
-        Ok(()) => Ok(Serial { memory, cores }),
+        Ok(()) => Ok(Serial {
+            memory,
+            cores,
+            pending: Vec::new(alloc),
+        }),
         Err(index) => Err(SerialFault::NotARun(index)),
     }
 }

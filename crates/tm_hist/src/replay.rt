@@ -8,6 +8,7 @@ ghost use Rattle.tm_hist.specs.Serial.{serial_code};
 ghost use Rattle.tm_hist.specs.declared.replay.SerialFault.TheVariants.{NoMemory};
 
 use crate::serial_core::SerialCore;
+use ia_exec::Store;
 use ia_regs::Regs;
 use std::alloc::{AllocError, AllocFailed};
 use thiserror::Error;
@@ -58,10 +59,13 @@ impl<T: Drop> From<AllocFailed<T>> for SerialFault {
 pub struct Serial {
     pub(crate) memory: Vec<u8>,
     pub(crate) cores: Vec<SerialCore>,
+    // Of each core, the oldest store first; empty where none may be pending.
+    pub(crate) pending: Vec<Vec<Store>>,
 }
 
 impl Serial {
-    ghost use Rattle.tm_hist.specs.Replay.{memory_of, cores_of};
+    ghost use Rattle.tm_hist.specs.Queues.{queue_at};
+    ghost use Rattle.tm_hist.specs.Replay.{memory_of, cores_of, pending_of};
     ghost use Rattle.tm_hist.specs.Serial.{base_of, stop_of, core_at};
 
     /// Memory at the end.
@@ -94,6 +98,22 @@ impl Serial {
         match self.cores.as_slice().get(usize::from(core)) {
             Some(core) => Ok(core.stop()),
             None => Err(NoSuchCore),
+        }
+    }
+
+    /// The stores of a core that are pending at the end, the oldest first.
+    ///
+    /// [`NoSuchCore`] for a number that no core of the program has.
+    pub fn pending(&self, core: u8) -> Result<&[Store], NoSuchCore>
+        ensures exists { IsOk result ↔ (core < length (cores_of self.now)) }
+        ensures value { IfOk result (λ stores. stores.now ≡ queue_at (pending_of self.now) core) }
+    {
+        if usize::from(core) >= self.cores.as_slice().len() {
+            return Err(NoSuchCore);
+        }
+        match self.pending.as_slice().get(usize::from(core)) {
+            Some(queue) => Ok(queue.as_slice()),
+            None => Ok(&[]),
         }
     }
 }

@@ -29,8 +29,8 @@ use tm_quick::Listing;
 use tm_rule::{Code, OutsideResult, Stop, fallback, fetch, row};
 use tm_whole::memory::write;
 
-// One instruction outside of transactions that goes on.
-fn plain_step(
+/// One instruction outside of transactions that goes on.
+pub fn plain_step(
     row: &Decoded,
     code: &Code<'_>,
     size: u32,
@@ -135,8 +135,8 @@ fn number(stop: Stop) -> u8
     }
 }
 
-// One instruction outside of transactions that stops for this reason.
-fn stop_step(
+/// One instruction outside of transactions that stops for this reason.
+pub fn stop_step(
     row: &Decoded,
     code: &Code<'_>,
     size: u32,
@@ -219,8 +219,8 @@ fn closed_step(
     }
 }
 
-// The registers after an abort with this status.
-fn registers_after_abort(code: &Code<'_>, regs: &Regs, status: u32) -> Regs
+/// The registers after an abort with this status.
+pub fn registers_after_abort(code: &Code<'_>, regs: &Regs, status: u32) -> Regs
     ensures { (size : ℕ) → result ≡ registers_after_abort (flat_setting code.now size) regs.now status }
 {
     let mut next = *regs;
@@ -229,8 +229,8 @@ fn registers_after_abort(code: &Code<'_>, regs: &Regs, status: u32) -> Regs
     next
 }
 
-// A step of a core that has made so many steps since its XBEGIN.
-fn open_step(
+/// A step of a core that has made so many steps since its XBEGIN.
+pub fn open_step(
     listing: &Listing<'_>,
     size: u32,
     memory: &mut [u8],

@@ -3,6 +3,7 @@ use Rattle.tm_model.specs.Setting.{program_setting}
 use Rattle.tm_model.specs.State.{opening_state}
 use Rattle.tm_hist.specs.History.{pairs_of}
 use Rattle.tm_hist.specs.Serial.{EndsWith, core_of}
+use Rattle.tm_hist.proofs.QueueRuns.{ends_with_none}
 use Rattle.tm_hist.proofs.Runs.{first_closed, opening_size, refused, replayed, written_back}
 use Rattle.tm_hist.specs.declared.serial_core.SerialCore.{SerialCore}
 use Rattle.tm_hist.proofs.one_memory.serial.Goals as goal
@@ -36,12 +37,13 @@ returns-in-Ok-clause-ok c =
     λ x. EndsWith (program_setting p 0 0 0) (opening_state p) h x
     (map core_of (take c.in_ok-cores.cores.len (cores2 ++ drop (length cores2) cores))) in
     let Q : List SerialCore → Type 0 = λ x. EndsWith (program_setting p 0 0 0) (opening_state p) h m2 (map core_of x) in
-    subst P (sym back_m) (subst Q (sym back_c)
+    ends_with_none (program_setting p 0 0 0) (opening_state p) h _ _ _ c.new.ensures.items
+    (subst P (sym back_m) (subst Q (sym back_c)
     (replayed p h c.code.result.now c.base.result c.mem_size.result c.deref_mut.result.now m2 c.deref_mut-2.result.now
     (map core_of cores2)
     c.code.ensures.code c.base.ensures.base c.mem_size.ensures.size
     (c.deref_mut.ensures.value ∙ c.in_ok-memory.ensures.memory) (c.deref_mut-2.ensures.value ∙ c.in_ok-cores.ensures.ok)
-    c.in-Ok.ensures.ok))
+    c.in-Ok.ensures.ok)))
 
 pub returns-in-Err-clause-err : goal.returns-in-Err-clause-err
 returns-in-Err-clause-err c =

@@ -11,7 +11,7 @@ pub returns-clause-ok : goal.returns-clause-ok
 returns-clause-ok c =
     let law = subst (λ (b : ShownBoard). IsHistory b) c.self.view_is (is_history _ _ c.self.invariant) in
     let same = ap (λ (b : ShownBoard). b.program) c.self.view_is in
-    IfOk-weaker c.serial.result (λ s. IsReplay c.self.inside.program (pairs_of c.history.result) s)
+    IfOk-weaker c.serial.result (λ s. IsReplay c.self.inside.program 0 (pairs_of c.history.result) s)
     (λ s. Replays c.args.self.now s)
     (λ s r. replays_at c.args.self.now c.self.inside.program (pairs_of c.history.result) s law same c.history.ensures r)
     c.serial.ensures.ok
@@ -21,7 +21,7 @@ returns-clause-err c =
     let law = subst (λ (b : ShownBoard). IsHistory b) c.self.view_is (is_history _ _ c.self.invariant) in
     let same = ap (λ (b : ShownBoard). b.program) c.self.view_is in
     IfErr-weaker c.serial.result
-    (λ fault. (fault ≡ NoMemory) ⊎ IsRefused c.self.inside.program (pairs_of c.history.result) fault)
+    (λ fault. (fault ≡ NoMemory) ⊎ IsRefused c.self.inside.program 0 (pairs_of c.history.result) fault)
     (λ fault. fault ≡ NoMemory)
     (λ fault r. never_refused_at c.args.self.now c.self.inside.program (pairs_of c.history.result) fault law same
     c.history.ensures r) c.serial.ensures.err
