@@ -1,4 +1,5 @@
-//! Tests of boards and their beginnings, of the texts of histories, and of want of memory, by public calls alone.
+//! Tests of boards and their beginnings, of the texts of histories, of serial runs with store buffers, and of want of
+//! memory, by public calls alone.
 //!
 //! They are what neither a clause nor a row of `doc_tests` says: what stands after a refusal, texts with numbers that
 //! no command has, and public calls that none makes. They stand here, and not in `tm_hist`, so that it is proved once.
@@ -15,5 +16,7 @@ mod increment;
 mod memory;
 #[cfg(test)]
 mod schedules;
+#[cfg(test)]
+mod store_buffers;
 #[cfg(test)]
 mod texts;

@@ -7,7 +7,7 @@ use ia_image::{ImageFault, LoadFault, Program, load, read_image};
 use std::alloc::Global;
 use std::process::Abort;
 use tm_core::{Limits, Machine, MachineFault, RunFault};
-use tm_hist::{Board, BoardFault, SerialFault};
+use tm_hist::{Board, BoardFault, History, SerialFault, serial_with};
 use tm_model::Outcome::{Begun, Inside};
 use tm_model::{CoreState, Pick};
 use tm_schedule::{ScheduleFault, read_schedule, read_steps};
@@ -162,6 +162,24 @@ fn a_board_replays(rt: HostRuntime) {
     };
     assert!(rt; end.memory() == board.machine().view());
     assert_eq!(rt; board.made(), 4);
+}
+
+#[test]
+fn a_run_has_store_buffers(rt: HostRuntime) {
+    let program = program(&rt, rt.alloc());
+    let steps = [(0, Begun), (1, Begun), (0, Inside)];
+    let history = History::new(&steps);
+    let end = match serial_with(rt.alloc(), &program, 4, history) {
+        Ok(end) => end,
+        Err(fault) => {
+            assert_eq!(rt; fault, SerialFault::NoMemory);
+            serial_with(rt.alloc(), &program, 4, history).expect(&rt, "runs when asked again")
+        }
+    };
+    for core in 0..2 {
+        assert!(rt; end.pending(core).is_ok_and(|stores| stores.is_empty()));
+    }
+    assert!(rt; end.pending(2).is_err());
 }
 
 #[test]
