@@ -17,7 +17,7 @@ use Rattle.gdb_packet.specs.declared.command.Command.TheVariants as command
 use Rattle.gdb_packet.specs.declared.command.Move.TheVariants as move
 use Rattle.gdb_packet.specs.declared.command.Question.{Question}
 use Rattle.gdb_packet.specs.declared.command.Question.TheVariants as question
-use Rattle.gdb_packet.specs.declared.resume.Told.{Told}
+use Rattle.gdb_packet.specs.declared.resume.ToldAction.{ToldAction}
 use Rattle.gdb_packet.specs.Actions.{AreAdded, IsAdded, IsAddedOne, IsToldMove, ResumesWithRoom, actions_in}
 use Rattle.gdb_packet.specs.Actions.{entry_says, in_front, leftmost, named_count, names, one_if, or_else, says_of}
 use Rattle.gdb_packet.specs.Actions.{says_of_all, told_action, told_actions}
@@ -73,7 +73,7 @@ unfolding told_actions
 refused_first text others asked h = ap (λ t. in_front t (told_actions others)) h
 
 -- one was added, and is the only one
-added_one : (told : Told) (count more : ℕ) (old new : Actions) → IsAddedOne told count old new more
+added_one : (told : ToldAction) (count more : ℕ) (old new : Actions) → IsAddedOne told count old new more
     → AreAdded (told ∷ []) count old new more
 unfolding leftmost named_count
 added_one told count more old new h = record {
@@ -84,7 +84,7 @@ added_one told count more old new h = record {
 }
 
 -- one was added, and others behind it
-added_more : (told : Told) (others : List Told) (count more all : ℕ) (old middle new : Actions)
+added_more : (told : ToldAction) (others : List ToldAction) (count more all : ℕ) (old middle new : Actions)
     → IsAddedOne told count old middle more → AreAdded others more middle new all
     → AreAdded (told ∷ others) count old new all
 unfolding leftmost named_count
@@ -97,7 +97,8 @@ added_more told others count more all old middle new one rest = record {
       ∙ or_else_more old.others (says_of_all told) (leftmost says_of_all others);
 }
 
-added_in_front : (told : Told) (others : Result (List Told) Question) (count more : ℕ) (old middle new : Actions)
+added_in_front : (told : ToldAction) (others : Result (List ToldAction) Question) (count more : ℕ)
+    (old middle new : Actions)
     (all : Result ℕ Question) → IsAddedOne told count old middle more → IsAdded others more middle new all
     → IsAdded (in_front (Ok told) others) count old new all
 added_in_front told (Err asked) count more old middle new all one rest = rest
@@ -105,11 +106,11 @@ added_in_front told (Ok others) count more old middle new (Err asked) one rest =
 added_in_front told (Ok others) count more old middle new (Ok all) one rest =
     added_more told others count more all old middle new one rest
 
-told_one : (text : List ℕ) (told : Told) → told_action text ≡ Ok told → told_actions (text ∷ []) ≡ Ok (told ∷ [])
+told_one : (text : List ℕ) (told : ToldAction) → told_action text ≡ Ok told → told_actions (text ∷ []) ≡ Ok (told ∷ [])
 unfolding told_actions
 told_one text told h = ap (λ t. in_front t (Ok [])) h
 
-told_more : (text : List ℕ) (others : List (List ℕ)) (told : Told) → told_action text ≡ Ok told
+told_more : (text : List ℕ) (others : List (List ℕ)) (told : ToldAction) → told_action text ≡ Ok told
     → told_actions (text ∷ others) ≡ in_front (Ok told) (told_actions others)
 unfolding told_actions
 told_more text others told h = ap (λ t. in_front t (told_actions others)) h
@@ -131,7 +132,7 @@ refused text end asked count old is within wrong =
     refused_by text end asked is wrong (eq-or-lt_of_le within) in
     subst (λ t. IsAdded t count old old (Err asked)) (sym all) refl
 
-pub last_added : (text : List ℕ) (end : ℕ) (told : Told) (count more : ℕ) (old new : Actions)
+pub last_added : (text : List ℕ) (end : ℕ) (told : ToldAction) (count more : ℕ) (old new : Actions)
     → end ≡ position_or_len (λ byte. byte == 59) text → end ≡ length text → told_action (take end text) ≡ Ok told
     → IsAddedOne told count old new more → IsAdded (told_actions (actions_in text)) count old new (Ok more)
 last_added text end told count more old new is last tells one =
@@ -139,7 +140,7 @@ last_added text end told count more old new is last tells one =
     ap told_actions (only_one text end is last) ∙ told_one (take end text) told tells in
     subst (λ t. IsAdded t count old new (Ok more)) (sym all) (added_one told count more old new one)
 
-pub first_added : (text : List ℕ) (end : ℕ) (told : Told) (count more : ℕ) (old middle new : Actions)
+pub first_added : (text : List ℕ) (end : ℕ) (told : ToldAction) (count more : ℕ) (old middle new : Actions)
     (all : Result ℕ Question)
     → end ≡ position_or_len (λ byte. byte == 59) text → end < length text → told_action (take end text) ≡ Ok told
     → IsAddedOne told count old middle more
@@ -152,7 +153,7 @@ first_added text end told count more old middle new all is further tells one oth
     (added_in_front told (told_actions (actions_in (drop (end + 1) text))) count more old middle new all one others)
 
 -- the command of all
-by_count : (b : Bool) (told : List Told) (first new : Actions) (count : ℕ) (resumed : Command)
+by_count : (b : Bool) (told : List ToldAction) (first new : Actions) (count : ℕ) (resumed : Command)
     → nat_le (named_count told) 64 ≡ b
     → ((thread : ℕ) → leftmost (entry_says thread) first.chosen ≡ None) → first.others ≡ None
     → AreAdded told 0 first new count
@@ -173,7 +174,7 @@ by_count true told first new count resumed is none none_other added few many =
 by_count false told first new count resumed is none none_other added few many =
     many (grind (arith, nat_tests, added.counted))
 
-pub resumes_all : (told : Result (List Told) Question) (first new : Actions) (count : ℕ) (resumed : Command)
+pub resumes_all : (told : Result (List ToldAction) Question) (first new : Actions) (count : ℕ) (resumed : Command)
     → ((thread : ℕ) → leftmost (entry_says thread) first.chosen ≡ None) → first.others ≡ None
     → IsAdded told 0 first new (Ok count)
     → (count ≤ 64 → resumed ≡ command.Move (move.Resume new))
@@ -182,7 +183,7 @@ resumes_all (Err asked) first new count resumed none none_other added few many =
 resumes_all (Ok told) first new count resumed none none_other added few many =
     by_count (nat_le (named_count told) 64) told first new count resumed refl none none_other added few many
 
-pub refuses_all : (told : Result (List Told) Question) (first new : Actions) (asked : Question)
+pub refuses_all : (told : Result (List ToldAction) Question) (first new : Actions) (asked : Question)
     → IsAdded told 0 first new (Err asked) → IsToldMove told (command.Ask asked)
 refuses_all (Err other) first new asked added = cc
 refuses_all (Ok told) first new asked added = absurd added

@@ -13,7 +13,7 @@ use Rattle.gdb_packet.specs.declared.command.Move.TheVariants as move
 use Rattle.gdb_packet.specs.declared.command.Question.{Question}
 use Rattle.gdb_packet.specs.declared.command.Question.TheVariants as question
 use Rattle.gdb_packet.specs.declared.command.ThreadAction.{ThreadAction}
-use Rattle.gdb_packet.specs.declared.resume.Told.{Told}
+use Rattle.gdb_packet.specs.declared.resume.ToldAction.{ToldAction}
 use Rattle.gdb_packet.specs.Numbers.{number_in}
 use Rattle.gdb_packet.specs.Parts.{first_part, other_parts}
 
@@ -65,22 +65,22 @@ thread_named [] = Ok None
 thread_named (byte ∷ others) =
     if pointwise nat_eq (byte ∷ others) (codes "-1") then Ok None else thread_numbered (number_in (byte ∷ others))
 
-abbrev pub told_of : Result Action Question → Result (Option ℕ) Question → Result Told Question
+abbrev pub told_of : Result Action Question → Result (Option ℕ) Question → Result ToldAction Question
 told_of (Err asked) thread = Err asked
 told_of (Ok action) (Err asked) = Err asked
 told_of (Ok action) (Ok thread) = Ok (record { thread = thread; action = action })
 
 -- what one action tells
-unfoldable pub told_action : List ℕ → Result Told Question
+unfoldable pub told_action : List ℕ → Result ToldAction Question
 told_action text = told_of (action_in (first_part 58 text)) (thread_named (other_parts 58 text))
 
-abbrev pub in_front : Result Told Question → Result (List Told) Question → Result (List Told) Question
+abbrev pub in_front : Result ToldAction Question → Result (List ToldAction) Question → Result (List ToldAction) Question
 in_front (Err asked) others = Err asked
 in_front (Ok told) (Err asked) = Err asked
 in_front (Ok told) (Ok others) = Ok (told ∷ others)
 
 -- what all actions tell; the first that is wrong decides how they are refused
-unfoldable pub told_actions : List (List ℕ) → Result (List Told) Question
+unfoldable pub told_actions : List (List ℕ) → Result (List ToldAction) Question
 told_actions [] = Ok []
 told_actions (text ∷ others) = in_front (told_action text) (told_actions others)
 
@@ -89,18 +89,18 @@ abbrev pub says_by_number : ℕ → Option ℕ → Action → Option Action
 says_by_number thread None action = None
 says_by_number thread (Some number) action = if number == thread then Some action else None
 
-abbrev pub says_of : ℕ → Told → Option Action
+abbrev pub says_of : ℕ → ToldAction → Option Action
 says_of thread told = says_by_number thread told.thread told.action
 
 abbrev pub says_without_number : Option ℕ → Action → Option Action
 says_without_number None action = Some action
 says_without_number (Some number) action = None
 
-abbrev pub says_of_all : Told → Option Action
+abbrev pub says_of_all : ToldAction → Option Action
 says_of_all told = says_without_number told.thread told.action
 
 -- the leftmost action that names the thread, else the leftmost one without a thread
-abbrev pub action_told : List Told → ℕ → Option Action
+abbrev pub action_told : List ToldAction → ℕ → Option Action
 action_told told thread = or_else (leftmost (says_of thread) told) (leftmost says_of_all told)
 
 abbrev pub names : Option ℕ → Bool
@@ -112,12 +112,12 @@ one_if true = 1
 one_if false = 0
 
 -- how many name a thread
-unfoldable pub named_count : List Told → ℕ
+unfoldable pub named_count : List ToldAction → ℕ
 named_count [] = 0
 named_count (told ∷ others) = one_if (names told.thread) + named_count others
 
 -- one action was added behind so many that name a thread
-pub record IsAddedOne (told : Told) (count : ℕ) (old new : Actions) (more : ℕ) : Type 0 where
+pub record IsAddedOne (told : ToldAction) (count : ℕ) (old new : Actions) (more : ℕ) : Type 0 where
   pub counted : more ≡ count + one_if (names told.thread)
   pub room : (thread : ℕ) → leftmost (entry_says thread) (drop more new.chosen) ≡ None
   pub chosen : more ≤ 64 → (thread : ℕ)
@@ -126,30 +126,30 @@ pub record IsAddedOne (told : Told) (count : ℕ) (old new : Actions) (more : �
   pub others : new.others ≡ or_else old.others (says_of_all told)
 
 -- so were all
-pub record AreAdded (told : List Told) (count : ℕ) (old new : Actions) (more : ℕ) : Type 0 where
+pub record AreAdded (told : List ToldAction) (count : ℕ) (old new : Actions) (more : ℕ) : Type 0 where
   pub counted : more ≡ count + named_count told
   pub chosen : more ≤ 64 → (thread : ℕ)
       → leftmost (entry_says thread) new.chosen
       ≡ or_else (leftmost (entry_says thread) old.chosen) (leftmost (says_of thread) told)
   pub others : new.others ≡ or_else old.others (leftmost says_of_all told)
 
-abbrev pub IsAdded : Result (List Told) Question → ℕ → Actions → Actions → Result ℕ Question → Type 0
+abbrev pub IsAdded : Result (List ToldAction) Question → ℕ → Actions → Actions → Result ℕ Question → Type 0
 IsAdded (Err asked) count old new more = more ≡ Err asked
 IsAdded (Ok told) count old new (Err asked) = ⊥
 IsAdded (Ok told) count old new (Ok more) = AreAdded told count old new more
 
 -- what a command resumes is what is told of each thread
-pub record Resumes (told : List Told) (resumed : Command) : Type 0 where
+pub record Resumes (told : List ToldAction) (resumed : Command) : Type 0 where
   pub actions : Actions
   pub is : resumed ≡ command.Move (move.Resume actions)
   pub each : (thread : ℕ) → action_of actions thread ≡ action_told told thread
 
 -- there is room for 64 that name a thread
-abbrev pub ResumesWithRoom : Bool → List Told → Command → Type 0
+abbrev pub ResumesWithRoom : Bool → List ToldAction → Command → Type 0
 ResumesWithRoom true told resumed = Resumes told resumed
 ResumesWithRoom false told resumed = resumed ≡ command.Ask question.Malformed
 
-abbrev pub IsToldMove : Result (List Told) Question → Command → Type 0
+abbrev pub IsToldMove : Result (List ToldAction) Question → Command → Type 0
 IsToldMove (Err asked) resumed = resumed ≡ command.Ask asked
 IsToldMove (Ok told) resumed = ResumesWithRoom (nat_le (named_count told) 64) told resumed
 

@@ -16,7 +16,7 @@ use crate::parts::{place_of, split_at};
 
 /// What one action tells.
 #[derive(Clone, Copy, PartialEq, Eq, Debug)]
-pub struct Told {
+pub struct ToldAction {
     /// The thread that it names, if any.
     pub thread: Option<u32>,
     /// What is to be done.
@@ -84,13 +84,13 @@ fn thread_named(text: &[u8]) -> Result<Option<u32>, Question>
 
 // What one action tells: `s`, `c`, `S sig` or `C sig`, and maybe a thread behind a colon.
 #[tactic(auto, unfolding(crate::specs::Actions::told_action))]
-fn told_action(text: &[u8]) -> Result<Told, Question>
+fn told_action(text: &[u8]) -> Result<ToldAction, Question>
     ensures { result ≡ told_action text.now }
 {
     let (word, thread) = split_at(b':', text);
     let action = action_in(word)?;
     let thread = thread_named(thread)?;
-    Ok(Told { thread, action })
+    Ok(ToldAction { thread, action })
 }
 
 // Adds an action behind so many that name a thread, where there is room.
@@ -110,7 +110,7 @@ fn add_named(actions: &mut Actions, count: usize, entry: ThreadAction)
 
 // Adds what one action tells, behind so many that name a thread, and tells how many do then. For more than
 // `MOST_ACTIONS` there is no room: they are counted.
-fn add_told(actions: &mut Actions, count: usize, told: Told) -> usize
+fn add_told(actions: &mut Actions, count: usize, told: ToldAction) -> usize
     requires few { count + 1 < 2 ^ 64 }
     requires room { (thread : ℕ) → leftmost (entry_says thread) (drop count actions.old.chosen) ≡ None }
     ensures { IsAddedOne told count actions.old actions.new result }
