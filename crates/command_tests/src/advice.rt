@@ -45,7 +45,8 @@ fn a_thread_that_is_not_started_and_a_number_that_is_left_out(rt: HostRuntime) {
     let cases: [(Refusal, &[u8]); 2] = [
         (
             Refusal::Fault(Fault::SpawnRefused),
-            b"the system refused a thread: it starts no further one (ulimit -u), or has no memory for its stack (ulimit -v)\n",
+            b"the system refused a thread: it starts no further one (ulimit -u), or has no memory for its stack \
+                (ulimit -v)\n",
         ),
         (
             Refusal::Usage("--budget"),

@@ -6,8 +6,9 @@
 //! `rows.txt`, says its form at its head; its commands run over files in memory, and status, standard output and
 //! standard error are compared.
 //!
-//! Promises no more than safety: it is a test. What a document or a table shows is read by `document` and `table` alone,
-//! and `wanted` and `printed` compare; none of these calls a command. Stands on `elide_trial`, whose commands it runs.
+//! Promises no more than safety: it is a test. What a document or a table shows is read by `document` and `table`
+//! alone, and `wanted` and `printed` compare; none of these calls a command. Stands on `elide_trial`, whose commands it
+//! runs.
 #![tactic(auto)]
 
 mod document;

@@ -128,7 +128,10 @@ fn front(named: Named, prefixes: &[u8]) -> &'static [u8]
 // Whether a prefix stands there that belongs to the opcode's name.
 fn has_name_of_its_own(named: Named) -> bool {
     named.escaped
-        && matches!(named.opcode, 0x10..=0x1f | 0x28..=0x2f | 0x38 | 0x3a | 0x50..=0x7f | 0xb8 | 0xbc | 0xbd | 0xc2..=0xc7 | 0xd0..=0xfe)
+        && matches!(
+            named.opcode,
+            0x10..=0x1f | 0x28..=0x2f | 0x38 | 0x3a | 0x50..=0x7f | 0xb8 | 0xbc | 0xbd | 0xc2..=0xc7 | 0xd0..=0xfe
+        )
 }
 
 // The name of an instruction, where it has one; REP stands before it or not.

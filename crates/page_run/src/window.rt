@@ -1,7 +1,7 @@
 //! Which steps of a run stand in its page.
 //!
-//! [`Window::of`] comes behind the first pass, when it is known how many there are, and [`Window::check`] then refuses a
-//! page that is too long. Which step is written where is said in `page_telling`.
+//! [`Window::of`] comes behind the first pass, when it is known how many there are, and [`Window::check`] then refuses
+//! a page that is too long. Which step is written where is said in `page_telling`.
 
 ghost use Rattle.std.specs.Prelude.{◌≡◌, ◌+◌, ◌-◌, ◌<◌, ◌≤◌, ◌&&◌, IfErr, IfOk, OnErr, OnOk, nat_eq, nat_le, nat_lt};
 ghost use Rattle.page_run.specs.Refused.{HasNoWindow};

@@ -80,8 +80,9 @@ font-family='DejaVu Sans,Helvetica,Arial,sans-serif' font-size='12' fill='#222'>
 // aborted it, and dotted where it is open.
 const STYLE: &str =
     "<style>.k{fill:#0072b2}.x{fill:#d55e00}.h{fill:url(#h)}.o{fill:#e69f00}.p{fill:#fff}.g{fill:#bbb}\
-.i{fill:#fff;stroke:#bbb}.q{fill:#ddd}.s{fill:#222}.v{fill:#e8e8e8}.b{stroke:#222}.b.x,.b.h{stroke-width:2}.b.o{stroke-dasharray:4 2}\
-.b.p{stroke-dasharray:1 2}.w{fill:#fff}.r{stroke:#bbb}.l{stroke:#222}.u{stroke:#fff;stroke-width:4}\
+.i{fill:#fff;stroke:#bbb}.q{fill:#ddd}.s{fill:#222}.v{fill:#e8e8e8}.b{stroke:#222}.b.x,.b.h{stroke-width:2}\
+.b.o{stroke-dasharray:4 2}.b.p{stroke-dasharray:1 2}.w{fill:#fff}.r{stroke:#bbb}.l{stroke:#222}\
+.u{stroke:#fff;stroke-width:4}\
 .a{stroke:#222;stroke-width:1.5;marker-end:url(#m)}.n{font-size:11px;stroke:#fff;stroke-width:3;paint-order:stroke}\
 .m{font-size:11px;text-anchor:middle}.e{text-anchor:end}.c{font-size:14px;font-weight:bold}\
 .d{font-size:10px}.f{font-size:8px}.j{font-size:11px}.y{fill:#fff;stroke:#777}</style>
