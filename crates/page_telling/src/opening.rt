@@ -89,7 +89,7 @@ fn write_states<O: Out>(machine: &Machine, out: &mut O) -> Result<(), WriteFault
     Ok(())
 }
 
-// The transactions that are open.
+// The transactions that have not ended.
 fn write_transactions<O: Out>(
     alloc: Global,
     machine: &Machine,
@@ -100,7 +100,7 @@ fn write_transactions<O: Out>(
 {
     let mut some = false;
     for core in 0..machine.cores() {
-        if is_in_transaction(machine, core) {
+        if has_transaction(machine, core) {
             write_comma(some, out)?;
             some = true;
             write_transaction(alloc, machine, behind, core, out)?;
@@ -109,7 +109,8 @@ fn write_transactions<O: Out>(
     Ok(())
 }
 
-fn is_in_transaction(machine: &Machine, core: u8) -> bool {
+// Whether a core has a transaction that has not ended, condemned or not.
+fn has_transaction(machine: &Machine, core: u8) -> bool {
     matches!(
         machine.state(core),
         Ok(CoreState::Open(_) | CoreState::Condemned(_))

@@ -28,11 +28,11 @@ fn touches_nothing(program: &Program, machine: &Machine, core: u8) -> bool {
     };
     let reach = preview.reach;
     // A stop reaches nothing, and its instruction may have loaded what it stops for.
-    reach.load.is_none() && reach.store.is_none() && loads_nothing(program, machine, core)
+    reach.load.is_none() && reach.store.is_none() && next_loads_nothing(program, machine, core)
 }
 
 // Whether the instruction that a core is at loads nothing.
-fn loads_nothing(program: &Program, machine: &Machine, core: u8) -> bool {
+fn next_loads_nothing(program: &Program, machine: &Machine, core: u8) -> bool {
     let Ok(regs) = machine.regs(core) else {
         return false;
     };
