@@ -5,6 +5,7 @@ ghost use Rattle.std.specs.Prelude.{◌≤◌};
 use crate::bars::{BAR, draw_hit, draw_line};
 use crate::frame::Sheet;
 use crate::label::LineLabels;
+use crate::rows::MOST_CORES;
 use crate::spans::{Arrow, Hit, Spans};
 use crate::svg::Svg;
 use crate::value::Tenths;
@@ -104,14 +105,14 @@ fn draw_names<O: Out, L: LineLabels>(
     spans: &Spans,
     labels: &L,
 ) {
-    let mut taken = [0; 64];
+    let mut taken = [0; MOST_CORES];
     for arrow in spans.arrows.as_slice() {
         if let Some(place) = place_of(sheet, arrow) {
             let gap = usize::from(place.gap);
             let width = width_of(arrow.hit, labels);
             let side = side_of(place.x, width);
             let begin = side.begin(place.x, width);
-            if gap < 64 && taken[gap] <= begin && arrow.hit.on.is_some() {
+            if gap < MOST_CORES && taken[gap] <= begin && arrow.hit.on.is_some() {
                 taken[gap] = begin.saturating_add(width);
                 let y = sheet.gap(place.gap);
                 let name = NamePlace {

@@ -4,10 +4,13 @@ ghost use Rattle.std.specs.Prelude.{◌≤◌};
 
 use arrayvec::ArrayVec;
 
+/// The most cores of a machine, and so of rows.
+pub const MOST_CORES: usize = 64;
+
 /// The cores that are drawn, a row each, from above; at most 64.
 #[derive(Drop)]
 pub struct Rows {
-    cores: ArrayVec<u8, 64>,
+    cores: ArrayVec<u8, MOST_CORES>,
 }
 
 impl Rows {

@@ -7,7 +7,7 @@ use crate::fate::{Fate, fate_at};
 use crate::frame::Sheet;
 use crate::label::{Label, LineLabels};
 use crate::picture::{Picture, draw};
-use crate::rows::Rows;
+use crate::rows::{MOST_CORES, Rows};
 use crate::spans::{Arrow, Hit, Span, Spans, Step, is_drawn};
 use crate::step_text::StepText;
 use crate::svg::Svg;
@@ -16,9 +16,6 @@ use crate::window::Window;
 use std::alloc::{AllocError, Global};
 use text_out::{Out, WriteFault};
 use tm_model::Outcome;
-
-/// The most cores of a machine.
-const CORES: usize = 64;
 
 /// What a picture of a window of a run shows, told step by step from the run's first step on, of which the steps of
 /// transactions that reach into the window count also where they lie before and behind it.
@@ -29,7 +26,7 @@ pub struct Timeline {
     // The number of the next step.
     next: u32,
     // The open transaction of each core.
-    open: [Option<Transaction>; CORES],
+    open: [Option<Transaction>; MOST_CORES],
     picture: Picture,
     variables: Variables,
 }
@@ -61,7 +58,7 @@ impl Timeline {
             window,
             cores,
             next: 0,
-            open: [None; CORES],
+            open: [None; MOST_CORES],
             picture,
             variables: Variables::new(alloc),
         })
@@ -132,7 +129,7 @@ impl Timeline {
 
     // The open transaction of a core.
     fn transaction(&self, core: u8) -> Option<Transaction> {
-        if usize::from(core) < CORES {
+        if usize::from(core) < MOST_CORES {
             self.open[usize::from(core)]
         } else {
             None
@@ -144,7 +141,7 @@ impl Timeline {
         ensures window { self.new.window ≡ self.old.window }
         ensures picture { self.new.picture ≡ self.old.picture }
     {
-        if usize::from(core) < CORES {
+        if usize::from(core) < MOST_CORES {
             self.open[usize::from(core)] = transaction;
         }
     }
