@@ -1,15 +1,9 @@
 //! A history of two cores, and each of its beginnings.
 
-use crate::increment::INCREMENT;
+use crate::increment::{INCREMENT, LIMITS};
 use ia_image::load;
 use std::test::Fail;
-use tm_core::Limits;
 use tm_hist::{Board, first_steps};
-
-const LIMITS: Limits = Limits {
-    read_lines: 512,
-    write_lines: 512,
-};
 
 #[test]
 fn each_beginning(rt: HostRuntime) -> Result<(), Fail> {

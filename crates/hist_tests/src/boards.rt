@@ -1,19 +1,13 @@
 //! Steps on a board, written by hand. Code lies from 100h on, in a memory of 65,536 bytes.
 
-use crate::increment::INCREMENT;
+use crate::increment::{INCREMENT, LIMITS};
 use ia_image::{Program, load};
 use std::alloc::Global;
 use std::process::Abort;
-use tm_core::Limits;
 use tm_hist::{Board, BoardFault, History, MOST_STEPS, StepFault};
 use tm_model::Outcome;
 use tm_model::Outcome::{Aborted, Begun, Committed, Inside, Stopped};
 use tm_rule::Stop;
-
-const LIMITS: Limits = Limits {
-    read_lines: 512,
-    write_lines: 512,
-};
 
 fn program(rt: &impl Abort, alloc: Global, entries: &[u32]) -> Program {
     load(alloc, &INCREMENT, 0x100, 22, 65536, entries).expect(rt, "the program is loaded")

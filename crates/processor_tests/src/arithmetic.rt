@@ -13,7 +13,9 @@ use ia_word::{AluOp, BitOp, IncDecOp, ShiftOp, Width};
 use std::alloc::AllocError;
 
 // The operands and counts at the edges, in the order of the tables.
-const WIDE: [u32; 8] = [
+
+/// Operands of 32 bits.
+pub const WIDE: [u32; 8] = [
     0,
     1,
     0x7f,
@@ -33,8 +35,8 @@ const HIGHS: [u32; 4] = [0, 1, 0x7fff_ffff, 0xffff_ffff];
 // In the place of a second operand, where an operation has one only.
 const ALONE: [u32; 1] = [0];
 
-// The flags before: none, and all six.
-const BEFORE: [u16; 2] = [0, 0x8d5];
+/// The flags before: none, and all six.
+pub const BEFORE: [u16; 2] = [0, 0x8d5];
 
 // An operation of a table with a value and flags in a row.
 #[derive(Clone, Copy, Debug)]

@@ -5,7 +5,7 @@ mod processor_table;
 ghost use Rattle.std.specs.Prelude.{◌<◌, IsTrue};
 ghost use Rattle.ia_insn.specs.Encoding.{encodable};
 
-use crate::arithmetic::flags;
+use crate::arithmetic::{BEFORE, WIDE, flags};
 use crate::numbers::Numbers;
 use ia_exec::{Finished, finish_in};
 use ia_insn::{Insn, Op, Operand};
@@ -14,19 +14,6 @@ use ia_word::{BareOp, Condition, ExchangeOp, ExtendOp, LoopOp, UnaryOp, Width};
 use processor_table::{CMPXCHG, CONDITIONS, EXTENSIONS, LOOPS, TEST, XADD};
 
 const BEHIND: u32 = 0x1003;
-
-const EDGES: [u32; 8] = [
-    0,
-    1,
-    0x7f,
-    0x80,
-    0xff,
-    0x7fff_ffff,
-    0x8000_0000,
-    0xffff_ffff,
-];
-
-const BEFORE: [u16; 2] = [0, 0x8d5];
 
 // The places of the flags, in the order of the table of conditions.
 const PLACES: [(u8, u16); 6] = [
@@ -95,8 +82,8 @@ fn test_of(left: u32, right: u32, before: u16) -> Option<u32> {
 
 fn xadd_agrees(table: &str) -> bool {
     let mut rows = Numbers::new(table);
-    for to in EDGES {
-        for from in EDGES {
+    for to in WIDE {
+        for from in WIDE {
             for before in BEFORE {
                 if rows.take_three() != xadd_of(to, from, before) {
                     return false;
@@ -109,8 +96,8 @@ fn xadd_agrees(table: &str) -> bool {
 
 fn cmpxchg_agrees(table: &str) -> bool {
     let mut rows = Numbers::new(table);
-    for eax in EDGES {
-        for to in EDGES {
+    for eax in WIDE {
+        for to in WIDE {
             for before in BEFORE {
                 if rows.take_three() != cmpxchg_of(eax, to, before) {
                     return false;
@@ -123,8 +110,8 @@ fn cmpxchg_agrees(table: &str) -> bool {
 
 fn test_agrees(table: &str) -> bool {
     let mut rows = Numbers::new(table);
-    for left in EDGES {
-        for right in EDGES {
+    for left in WIDE {
+        for right in WIDE {
             for before in BEFORE {
                 if rows.take() != test_of(left, right, before) {
                     return false;
@@ -150,7 +137,7 @@ fn left_in(register: u8, op: Op, start: &Regs) -> Option<u32>
 
 fn extensions_agree(table: &str) -> bool {
     let mut rows = Numbers::new(table);
-    for a in EDGES {
+    for a in WIDE {
         let start = starting(a, 5, 5, a, 0x8d5);
         let source = Operand::Reg(3);
         if rows.take() != left_in(3, Op::Unary(UnaryOp::Not, source), &start)
@@ -178,7 +165,7 @@ fn jumped(op: Op, start: &Regs) -> Option<u32>
 
 fn loops_agree(table: &str) -> bool {
     let mut rows = Numbers::new(table);
-    for ecx in EDGES {
+    for ecx in WIDE {
         let start = starting(7, ecx, 7, 7, 0x8d5);
         if rows.take() != left_in(1, Op::LoopJump(LoopOp::Loop, 0xffff_fff0), &start)
             || rows.take() != jumped(Op::LoopJump(LoopOp::Loop, 0xffff_fff0), &start)

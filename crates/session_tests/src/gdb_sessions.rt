@@ -1,6 +1,7 @@
 //! Sessions with gdb on several cores, by packets: each step, stop and step back that a clause promises, once, and a
 //! plan with a core that there is not, which a command refuses.
 
+use crate::sessions::LIMITS;
 use gdb_packet::write_packet;
 use ia_image::load;
 use std::alloc::Global;
@@ -9,16 +10,10 @@ use std::process::Abort;
 use std::sync::Wait;
 use std::test::Fail;
 use text_out::{Out, ToVec};
-use tm_core::Limits;
 use tm_debug::FromReader;
 use tm_gdb::serve;
 use tm_hist::Board;
 use tm_model::Pick;
-
-const LIMITS: Limits = Limits {
-    read_lines: 512,
-    write_lines: 512,
-};
 
 /// A program at 0x100, where its cores begin, the cores of its schedule, if it has one, the packets that are sent, each
 /// with its answer, and how many steps are made then.

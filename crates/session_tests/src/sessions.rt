@@ -15,7 +15,8 @@ use tm_debug::{FromReader, In, MOST_BREAKPOINTS, SessionFault, serve, serve_in};
 use tm_hist::Board;
 use tm_model::{Event, Interference, Pick};
 
-const LIMITS: Limits = Limits {
+/// Room for more lines than any transaction here uses.
+pub const LIMITS: Limits = Limits {
     read_lines: 512,
     write_lines: 512,
 };
