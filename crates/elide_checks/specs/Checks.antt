@@ -9,6 +9,8 @@ use Rattle.tm_check.specs.declared.check.Check.{Check}
 use Rattle.tm_check.specs.declared.check.Check.TheVariants.{Demanded, Forbidden, NoStop, AllStop}
 use Rattle.elide_checks.specs.Conditions.{IsCondition}
 use Rattle.elide_checks.specs.Constants.{is_constant}
+use Rattle.elide_checks.specs.declared.adding.ConditionOption.{ConditionOption}
+use Rattle.elide_checks.specs.declared.adding.ConditionOption.TheVariants as option
 
 -- the check of a `--check`: its condition is to hold
 abbrev pub IsDemanded : ProgramFile → (List ℕ → Bool) → List ℕ → Check → Type 0
@@ -23,6 +25,11 @@ IsForbidden file constants text (Demanded clauses) = ⊥
 IsForbidden file constants text (Forbidden clauses) = IsCondition file constants text clauses.items
 IsForbidden file constants text (NoStop why) = ⊥
 IsForbidden file constants text AllStop = ⊥
+
+-- that of a condition which is the value of one of these two
+abbrev pub IsCheckOf : ProgramFile → (List ℕ → Bool) → ConditionOption → List ℕ → Check → Type 0
+IsCheckOf file constants option.Check = IsDemanded file constants
+IsCheckOf file constants option.Forbid = IsForbidden file constants
 
 -- that of a `--stop`: no stop for the reason of this word
 abbrev pub IsStopCheck : List ℕ → Check → Type 0

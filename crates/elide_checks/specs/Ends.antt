@@ -10,6 +10,8 @@ use Rattle.tm_condition.specs.declared.check.Check.TheVariants.{Demanded, Forbid
 use Rattle.tm_condition.specs.declared.clause.Clause.{Clause}
 use Rattle.elide_checks.specs.Conditions.{IsCondition}
 use Rattle.elide_checks.specs.Constants.{is_constant}
+use Rattle.elide_checks.specs.declared.adding.ConditionOption.{ConditionOption}
+use Rattle.elide_checks.specs.declared.adding.ConditionOption.TheVariants as option
 
 -- a text says these conditions, which are on a machine alone
 abbrev pub IsOfMachine : ProgramFile → (List ℕ → Bool) → List ℕ → List Clause → Type 0
@@ -24,6 +26,11 @@ IsEndDemanded file constants text (Forbidden clauses) = ⊥
 abbrev pub IsEndForbidden : ProgramFile → (List ℕ → Bool) → List ℕ → Check → Type 0
 IsEndForbidden file constants text (Demanded clauses) = ⊥
 IsEndForbidden file constants text (Forbidden clauses) = IsOfMachine file constants text clauses.items
+
+-- that of a condition which is the value of one of these two
+abbrev pub IsEndCheckOf : ProgramFile → (List ℕ → Bool) → ConditionOption → List ℕ → Check → Type 0
+IsEndCheckOf file constants option.Check = IsEndDemanded file constants
+IsEndCheckOf file constants option.Forbid = IsEndForbidden file constants
 
 -- those of `--check`, and behind them those of `--forbid`, each in the order of the command line, by the symbols of a
 -- program and a test which of them are numbers

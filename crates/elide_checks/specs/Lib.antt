@@ -5,6 +5,7 @@ pub mod Counts
 pub mod Items
 pub mod Conditions
 pub mod Misread
+pub mod Options
 pub mod Added
 pub mod Checks
 pub mod Ends

@@ -10,14 +10,15 @@ ghost use Rattle.elide_args.specs.declared.hunt_options.HuntOptions.{HuntOptions
 ghost use Rattle.elide_setup.specs.Misuse.{IsMisuse};
 ghost use Rattle.tm_hist.specs.Lines.{stop_word};
 ghost use Rattle.elide_checks.specs.Added.{AreAdded};
-ghost use Rattle.elide_checks.specs.Checks.{AreChecks, AreChecksBy, IsDemanded, IsForbidden, IsStopCheck, halt_checks};
+ghost use Rattle.elide_checks.specs.Checks.{AreChecks, AreChecksBy, IsCheckOf, IsStopCheck, halt_checks};
 ghost use Rattle.elide_checks.specs.Constants.{is_among};
 ghost use Rattle.elide_checks.specs.Misread.{IsNoCondition};
 ghost use Rattle.elide_checks.specs.Reach.{HasCheck};
-ghost use Rattle.elide_checks.specs.Refused.{AreNoDemands, HasMisreadText, IsNoStop};
+ghost use Rattle.elide_checks.specs.Refused.{AreNoDemands, IsNoStop};
 ghost use Rattle.elide_setup.specs.Faults.{want};
 ghost use Rattle.tm_rule.specs.declared.kinds.Stop.{Stop as StopOf};
 
+use crate::adding::{ConditionCheck, ConditionOption, add_checks};
 use crate::conditions::condition_of;
 use crate::constants::Constants;
 use crate::items::Scope;
@@ -70,6 +71,25 @@ impl Demands {
     }
 }
 
+impl ConditionCheck for Check {
+    ghost says = { IsCheckOf };
+
+    ghost says_none = { λ file _ text. IsNoCondition file text };
+
+    fn of_text(
+        alloc: Global,
+        text: &str,
+        scope: &Scope<'_, '_, '_>,
+        option: ConditionOption,
+    ) -> Result<Check, Refusal> {
+        let clauses = condition_of(alloc, text, scope, option.name())?;
+        match option {
+            ConditionOption::Check => Ok(Check::Demanded(clauses)),
+            ConditionOption::Forbid => Ok(Check::Forbidden(clauses)),
+        }
+    }
+}
+
 // What the options say.
 fn checks_of(
     alloc: Global,
@@ -82,52 +102,16 @@ fn checks_of(
         (AreNoDemands scope.now.file.now options.now) }
 {
     let mut checks = Vec::new(alloc);
-    add_demanded(alloc, &mut checks, options.checks.as_slice(), scope)?;
-    add_forbidden(alloc, &mut checks, options.forbids.as_slice(), scope)?;
+    let demands = options.checks.as_slice();
+    let forbids = options.forbids.as_slice();
+    add_checks(alloc, &mut checks, ConditionOption::Check, demands, scope)?;
+    add_checks(alloc, &mut checks, ConditionOption::Forbid, forbids, scope)?;
     add_stops(&mut checks, options.stops.as_slice())?;
     add_halt(&mut checks, options.expects_halt)?;
     if checks.is_empty() {
         return Err(Refusal::Usage("--check"));
     }
     Ok(checks)
-}
-
-// Adds what each `--check` says.
-fn add_demanded(
-    alloc: Global,
-    checks: &mut Vec<Check>,
-    texts: &[&str],
-    scope: &Scope<'_, '_, '_>,
-) -> Result<(), Refusal>
-    ensures { MatchResult result
-        (λ _. AreAdded (IsDemanded scope.now.file.now (is_among scope.now.constants.now.names.items)) texts.now
-        checks.old.items checks.new.items)
-        (λ why. HasMisreadText (IsNoCondition scope.now.file.now) texts.now (codes "--check") why ⊎ (why ≡ want)) }
-{
-    for text in texts {
-        let clauses = condition_of(alloc, text, scope, "--check")?;
-        add(checks, Check::Demanded(clauses))?;
-    }
-    Ok(())
-}
-
-// Adds what each `--forbid` says.
-fn add_forbidden(
-    alloc: Global,
-    checks: &mut Vec<Check>,
-    texts: &[&str],
-    scope: &Scope<'_, '_, '_>,
-) -> Result<(), Refusal>
-    ensures { MatchResult result
-        (λ _. AreAdded (IsForbidden scope.now.file.now (is_among scope.now.constants.now.names.items)) texts.now
-        checks.old.items checks.new.items)
-        (λ why. HasMisreadText (IsNoCondition scope.now.file.now) texts.now (codes "--forbid") why ⊎ (why ≡ want)) }
-{
-    for text in texts {
-        let clauses = condition_of(alloc, text, scope, "--forbid")?;
-        add(checks, Check::Forbidden(clauses))?;
-    }
-    Ok(())
 }
 
 // Adds what each `--stop` says.

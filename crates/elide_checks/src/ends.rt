@@ -4,18 +4,17 @@
 //! uses. A count is read as in a condition of `hunt`, and refused behind that: an end is of many runs, and has none.
 //! Whether a machine has what is looked at is asked by [`EndChecks::checks`].
 
-ghost use Rattle.std.specs.Prelude.{◌≡◌, ◌⊎◌, All, IfOk, MatchOption, MatchResult, codes, map};
+ghost use Rattle.std.specs.Prelude.{◌≡◌, All, IfOk, MatchOption, MatchResult, map};
 ghost use Rattle.std.specs.List.{Contains};
-ghost use Rattle.elide_checks.specs.Added.{AreAdded};
 ghost use Rattle.elide_checks.specs.Constants.{is_among};
-ghost use Rattle.elide_checks.specs.Ends.{AreEndChecks, AreEndChecksBy, IsEndDemanded, IsEndForbidden, IsOfMachine};
+ghost use Rattle.elide_checks.specs.Ends.{AreEndChecks, AreEndChecksBy, IsEndCheckOf, IsOfMachine};
 ghost use Rattle.elide_checks.specs.Misread.{IsNoEndCondition, IsOfRun};
 ghost use Rattle.elide_checks.specs.Reach.{HasEndCheck};
-ghost use Rattle.elide_checks.specs.Refused.{AreNoChecks, AreMisreadTexts, HasMisreadText, IsMisreadText};
-ghost use Rattle.elide_setup.specs.Faults.{want};
+ghost use Rattle.elide_checks.specs.Refused.{AreMisreadTexts, AreNoChecks, IsMisreadText};
 ghost use Rattle.tm_check.specs.declared.clause.RunClause.{RunClause as RunClauseOf};
 ghost use Rattle.tm_check.specs.declared.clause.RunClause.TheVariants.{OfMachine};
 
+use crate::adding::{ConditionCheck, ConditionOption, add_checks};
 use crate::conditions::condition_of;
 use crate::constants::Constants;
 use crate::items::Scope;
@@ -69,6 +68,25 @@ impl EndChecks {
     }
 }
 
+impl ConditionCheck for Check {
+    ghost says = { IsEndCheckOf };
+
+    ghost says_none = { IsNoEndCondition };
+
+    fn of_text(
+        alloc: Global,
+        text: &str,
+        scope: &Scope<'_, '_, '_>,
+        option: ConditionOption,
+    ) -> Result<Check, Refusal> {
+        let clauses = machine_condition_of(alloc, text, scope, option.name())?;
+        match option {
+            ConditionOption::Check => Ok(Check::Demanded(clauses)),
+            ConditionOption::Forbid => Ok(Check::Forbidden(clauses)),
+        }
+    }
+}
+
 // What the options say.
 fn checks_of(
     alloc: Global,
@@ -84,49 +102,9 @@ fn checks_of(
         forbids.now) }
 {
     let mut checks = Vec::new(alloc);
-    add_demanded(alloc, &mut checks, demands, scope)?;
-    add_forbidden(alloc, &mut checks, forbids, scope)?;
+    add_checks(alloc, &mut checks, ConditionOption::Check, demands, scope)?;
+    add_checks(alloc, &mut checks, ConditionOption::Forbid, forbids, scope)?;
     Ok(checks)
-}
-
-// Adds what each `--check` says.
-fn add_demanded(
-    alloc: Global,
-    checks: &mut Vec<Check>,
-    texts: &[&str],
-    scope: &Scope<'_, '_, '_>,
-) -> Result<(), Refusal>
-    ensures { MatchResult result
-        (λ _. AreAdded (IsEndDemanded scope.now.file.now (is_among scope.now.constants.now.names.items)) texts.now
-        checks.old.items checks.new.items)
-        (λ why. HasMisreadText (IsNoEndCondition scope.now.file.now (is_among scope.now.constants.now.names.items))
-        texts.now (codes "--check") why ⊎ (why ≡ want)) }
-{
-    for text in texts {
-        let clauses = machine_condition_of(alloc, text, scope, "--check")?;
-        add(checks, Check::Demanded(clauses))?;
-    }
-    Ok(())
-}
-
-// Adds what each `--forbid` says.
-fn add_forbidden(
-    alloc: Global,
-    checks: &mut Vec<Check>,
-    texts: &[&str],
-    scope: &Scope<'_, '_, '_>,
-) -> Result<(), Refusal>
-    ensures { MatchResult result
-        (λ _. AreAdded (IsEndForbidden scope.now.file.now (is_among scope.now.constants.now.names.items)) texts.now
-        checks.old.items checks.new.items)
-        (λ why. HasMisreadText (IsNoEndCondition scope.now.file.now (is_among scope.now.constants.now.names.items))
-        texts.now (codes "--forbid") why ⊎ (why ≡ want)) }
-{
-    for text in texts {
-        let clauses = machine_condition_of(alloc, text, scope, "--forbid")?;
-        add(checks, Check::Forbidden(clauses))?;
-    }
-    Ok(())
 }
 
 // The conditions on a machine that a text says. One on a run's history is a misuse of the option of this name.

@@ -12,6 +12,7 @@
 //! `ia_source`, which reads a source's names once more, and on `tm_check`, whose checks it makes.
 #![tactic(auto)]
 
+mod adding;
 mod bytes;
 mod conditions;
 mod constants;

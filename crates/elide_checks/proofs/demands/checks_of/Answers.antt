@@ -13,8 +13,8 @@ pub returns : goal.returns
 returns c =
     let file = c.args.scope.now.file.now in
     let names : List ℕ → Bool = is_among c.args.scope.now.constants.now.names.items in
-    let demanded = c.in_ok-add_demanded.ensures in
-    let forbidden = c.in_ok-add_forbidden.ensures in
+    let demanded = c.in_ok-add_checks.ensures in
+    let forbidden = c.in_ok-add_checks-2.ensures in
     let stops = c.in_ok-add_stops.ensures in
     record {
       demanded = demanded.0;
@@ -38,8 +38,8 @@ returns c =
 
 pub returns-then-is_empty : goal.returns-then-is_empty
 returns-then-is_empty c =
-    let demanded = c.in_ok-add_demanded.ensures in
-    let forbidden = c.in_ok-add_forbidden.ensures in
+    let demanded = c.in_ok-add_checks.ensures in
+    let forbidden = c.in_ok-add_checks-2.ensures in
     let stops = c.in_ok-add_stops.ensures in
     let halt = halt_checks c.args.options.now.expects_halt in
     let whole =

@@ -3,8 +3,8 @@ use Rattle.elide_checks.proofs.ends.checks_of.Goals as goal
 
 pub returns : goal.returns
 returns c =
-    let demanded = c.in_ok-add_demanded.ensures in
-    let forbidden = c.in_ok-add_forbidden.ensures in
+    let demanded = c.in_ok-add_checks.ensures in
+    let forbidden = c.in_ok-add_checks-2.ensures in
     record {
       demanded = demanded.0;
       forbidden = forbidden.0;
