@@ -9,11 +9,11 @@ ghost use Rattle.ia_asm.specs.Assembles.{GivesListing};
 ghost use Rattle.elide_asm.specs.Printed.{IsImageText, Prints, PrintsAssembly, RefusesAssembly, RefusesSource};
 
 use elide_args::AsmOptions;
-use elide_program::{Paths, ProgramFault, ProgramRefusal, read_source};
+use elide_program::{Paths, ProgramRefusal, read_source};
 use ia_asm::{assemble_code, assemble_listing};
 use ia_image::write_image;
 use std::alloc::Global;
-use text_out::{Out, WriteFault};
+use text_out::Out;
 
 /// Prints the image text of a source, or its listing.
 pub fn asm<P: Paths, O: Out>(
@@ -42,13 +42,9 @@ fn list<O: Out>(alloc: Global, text: &[u8], out: &mut O) -> Result<(), ProgramRe
         (λ _. Prints (GivesListing text.now) (O.device out.old) (O.device out.new))
         (RefusesSource text.now (GivesListing text.now) (O.device out.old) (O.device out.new)) }
 {
-    match assemble_listing(alloc, text) {
-        Ok(listing) => match out.put(listing.as_slice()) {
-            Ok(()) => Ok(()),
-            Err(_) => Err(ProgramRefusal::Fault(ProgramFault::Write(WriteFault::Write))),
-        },
-        Err(fault) => Err(ProgramRefusal::Fault(ProgramFault::Assemble(fault))),
-    }
+    let listing = assemble_listing(alloc, text)?;
+    out.put(listing.as_slice())?;
+    Ok(())
 }
 
 // Prints the image text of a source, for which no symbols and no listing are kept.
@@ -57,11 +53,7 @@ fn write<O: Out>(alloc: Global, text: &[u8], out: &mut O) -> Result<(), ProgramR
         (λ _. Prints (IsImageText text.now) (O.device out.old) (O.device out.new))
         (RefusesSource text.now (IsImageText text.now) (O.device out.old) (O.device out.new)) }
 {
-    match assemble_code(alloc, text) {
-        Ok(code) => match write_image(code.image.as_slice(), code.base, code.code_len, out) {
-            Ok(()) => Ok(()),
-            Err(fault) => Err(ProgramRefusal::Fault(ProgramFault::Write(fault))),
-        },
-        Err(fault) => Err(ProgramRefusal::Fault(ProgramFault::Assemble(fault))),
-    }
+    let code = assemble_code(alloc, text)?;
+    write_image(code.image.as_slice(), code.base, code.code_len, out)?;
+    Ok(())
 }

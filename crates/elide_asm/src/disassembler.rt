@@ -12,7 +12,7 @@ ghost use Rattle.elide_asm.specs.Printed.{AppendsLabelled, IsCodeListing, Prints
 use crate::labels::list_labelled;
 use elide_args::DisOptions;
 use elide_places::Places;
-use elide_program::{Paths, ProgramFault, ProgramFile, ProgramRefusal, read_file};
+use elide_program::{Paths, ProgramFile, ProgramRefusal, read_file};
 use ia_image::LoadFault;
 use ia_text::disassemble;
 use std::alloc::Global;
@@ -64,10 +64,8 @@ fn list<O: Out + Drop>(file: &ProgramFile<'_>, out: O) -> Result<O, ProgramRefus
 {
     let code = code_of(file)?;
     let mut out = out;
-    match disassemble(code, file.base(), &mut out) {
-        Ok(()) => Ok(out),
-        Err(fault) => Err(ProgramRefusal::Fault(ProgramFault::Write(fault))),
-    }
+    disassemble(code, file.base(), &mut out)?;
+    Ok(out)
 }
 
 // What [`list`] does, with the labels of the file, which was read from this text.
@@ -93,6 +91,6 @@ fn code_of<'f>(file: &'f ProgramFile<'_>) -> Result<&'f [u8], ProgramRefusal>
 {
     match file.bytes().get(..file.code_len() as usize) {
         Some(code) => Ok(code),
-        None => Err(ProgramRefusal::Fault(ProgramFault::Load(LoadFault::CodeTooLong))),
+        None => Err(ProgramRefusal::from(LoadFault::CodeTooLong)),
     }
 }

@@ -12,7 +12,7 @@ ghost use Rattle.symbols.specs.declared.marks.Mark.{Mark};
 use crate::listing::write_listing;
 use elide_device::Gathered;
 use elide_places::Places;
-use elide_program::{ProgramFault, ProgramRefusal};
+use elide_program::ProgramRefusal;
 use std::alloc::Global;
 use symbols::{Mark, marks_of};
 use text_out::{Out, WriteFault};
@@ -39,10 +39,8 @@ pub fn list_labelled<O: Out + Drop>(
     let marks = marks_of(alloc, places.labels())?;
     let written = write_gathered(code, base, marks.as_slice(), out);
     drop(marks);
-    match written {
-        Ok(out) => Ok(out),
-        Err(fault) => Err(ProgramRefusal::Fault(ProgramFault::Write(fault))),
-    }
+    let out = written?;
+    Ok(out)
 }
 
 // Writes the listing with these labels, many lines at a time.

@@ -12,7 +12,7 @@ use ia_asm::AsmFault;
 use ia_elf::ElfFault;
 use ia_image::{ImageFault, LoadFault};
 use std::alloc::AllocError;
-use text_out::WriteFault;
+use text_out::{Failed, WriteFault};
 use thiserror::Error;
 
 /// A fault of FILE or of its loading, with a number, told on one line. It owns nothing, so that it goes through `?` at
@@ -98,6 +98,83 @@ impl From<ProgramFault> for ProgramRefusal {
 
     fn from(fault: ProgramFault) -> ProgramRefusal {
         ProgramRefusal::Fault(fault)
+    }
+}
+
+impl From<ReadFault> for ProgramRefusal {
+    ghost use Rattle.elide_program.specs.declared.fault.ProgramRefusal.TheVariants.{Fault};
+
+    ghost from_gives = { λ fault given. given ≡ Fault (unread fault) };
+
+    fn from(fault: ReadFault) -> ProgramRefusal {
+        ProgramRefusal::Fault(ProgramFault::from(fault))
+    }
+}
+
+impl From<ElfFault> for ProgramRefusal {
+    ghost use Rattle.elide_program.specs.declared.fault.ProgramFault.TheVariants.{Elf};
+    ghost use Rattle.elide_program.specs.declared.fault.ProgramRefusal.TheVariants.{Fault};
+
+    ghost from_gives = { λ fault given. given ≡ Fault (Elf fault) };
+
+    fn from(fault: ElfFault) -> ProgramRefusal {
+        ProgramRefusal::Fault(ProgramFault::Elf(fault))
+    }
+}
+
+impl From<ImageFault> for ProgramRefusal {
+    ghost use Rattle.elide_program.specs.declared.fault.ProgramFault.TheVariants.{Image};
+    ghost use Rattle.elide_program.specs.declared.fault.ProgramRefusal.TheVariants.{Fault};
+
+    ghost from_gives = { λ fault given. given ≡ Fault (Image fault) };
+
+    fn from(fault: ImageFault) -> ProgramRefusal {
+        ProgramRefusal::Fault(ProgramFault::Image(fault))
+    }
+}
+
+impl From<AsmFault> for ProgramRefusal {
+    ghost use Rattle.elide_program.specs.declared.fault.ProgramFault.TheVariants.{Assemble};
+    ghost use Rattle.elide_program.specs.declared.fault.ProgramRefusal.TheVariants.{Fault};
+
+    ghost from_gives = { λ fault given. given ≡ Fault (Assemble fault) };
+
+    fn from(fault: AsmFault) -> ProgramRefusal {
+        ProgramRefusal::Fault(ProgramFault::Assemble(fault))
+    }
+}
+
+impl From<LoadFault> for ProgramRefusal {
+    ghost use Rattle.elide_program.specs.declared.fault.ProgramFault.TheVariants.{Load};
+    ghost use Rattle.elide_program.specs.declared.fault.ProgramRefusal.TheVariants.{Fault};
+
+    ghost from_gives = { λ fault given. given ≡ Fault (Load fault) };
+
+    fn from(fault: LoadFault) -> ProgramRefusal {
+        ProgramRefusal::Fault(ProgramFault::Load(fault))
+    }
+}
+
+impl From<WriteFault> for ProgramRefusal {
+    ghost use Rattle.elide_program.specs.declared.fault.ProgramFault.TheVariants.{Write};
+    ghost use Rattle.elide_program.specs.declared.fault.ProgramRefusal.TheVariants.{Fault};
+
+    ghost from_gives = { λ fault given. given ≡ Fault (Write fault) };
+
+    fn from(fault: WriteFault) -> ProgramRefusal {
+        ProgramRefusal::Fault(ProgramFault::Write(fault))
+    }
+}
+
+impl From<Failed> for ProgramRefusal {
+    ghost use Rattle.elide_program.specs.declared.fault.ProgramFault.TheVariants.{Write};
+    ghost use Rattle.elide_program.specs.declared.fault.ProgramRefusal.TheVariants.{Fault};
+    ghost use Rattle.text_out.specs.declared.out.WriteFault.TheVariants as failed;
+
+    ghost from_gives = { λ _ given. given ≡ Fault (Write failed.Write) };
+
+    fn from(_failed: Failed) -> ProgramRefusal {
+        ProgramRefusal::Fault(ProgramFault::Write(WriteFault::Write))
     }
 }
 

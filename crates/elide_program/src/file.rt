@@ -43,13 +43,9 @@ pub fn read_file<P: Paths>(path: &str, paths: &mut P) -> Result<Vec<u8>, Program
         (λ refusal. Tells unread (P.content paths.old path.now) refusal) }
     ensures kept { (other : List ℕ) → P.content paths.new other ≡ P.content paths.old other }
 {
-    match paths.read(path, MOST_BYTES) {
-        Ok(text) => {
-            paths.warn_of(text.as_slice());
-            Ok(text)
-        }
-        Err(fault) => Err(ProgramRefusal::Fault(ProgramFault::from(fault))),
-    }
+    let text = paths.read(path, MOST_BYTES)?;
+    paths.warn_of(text.as_slice());
+    Ok(text)
 }
 
 /// The content of a source's file, of at most [`MOST_BYTES`]; its warnings are told. Want of memory is the assembler's
@@ -84,18 +80,9 @@ impl<'a> ProgramFile<'a> {
         ensures none { IfErr result (IsNoProgram text.now) }
     {
         match Form::of(text) {
-            Form::Executable => match read_elf(alloc, text) {
-                Ok(elf) => Ok(ProgramFile::Elf(elf)),
-                Err(fault) => Err(ProgramRefusal::Fault(ProgramFault::Elf(fault))),
-            },
-            Form::Image => match read_image(alloc, text) {
-                Ok(image) => Ok(ProgramFile::Image(image)),
-                Err(fault) => Err(ProgramRefusal::Fault(ProgramFault::Image(fault))),
-            },
-            Form::Source => match assemble_image(alloc, text) {
-                Ok(program) => Ok(ProgramFile::Source(program)),
-                Err(fault) => Err(ProgramRefusal::Fault(ProgramFault::Assemble(fault))),
-            },
+            Form::Executable => Ok(ProgramFile::Elf(read_elf(alloc, text)?)),
+            Form::Image => Ok(ProgramFile::Image(read_image(alloc, text)?)),
+            Form::Source => Ok(ProgramFile::Source(assemble_image(alloc, text)?)),
         }
     }
 
@@ -203,25 +190,20 @@ impl<'a> ProgramFile<'a> {
         ensures fits { IfOk result (λ _. file_end self.now ≤ settings.now.memory) }
         ensures fault { IfErr result (λ refusal. TellsLoad self.now settings.now.memory starts.now refusal) }
     {
-        let loaded = load(
+        let program = load(
             alloc,
             self.bytes(),
             self.base(),
             self.code_len(),
             settings.memory,
             starts,
-        );
-        match loaded {
-            Ok(program) => {
-                // By this it is known that there are 64 cores at most.
-                let _cores = program.cores();
-                if self.end() > u64::from(settings.memory) {
-                    return Err(ProgramRefusal::Fault(ProgramFault::Load(LoadFault::TooLarge)));
-                }
-                Ok(program)
-            }
-            Err(fault) => Err(ProgramRefusal::Fault(ProgramFault::Load(fault))),
+        )?;
+        // By this it is known that there are 64 cores at most.
+        let _cores = program.cores();
+        if self.end() > u64::from(settings.memory) {
+            return Err(ProgramRefusal::Fault(ProgramFault::Load(LoadFault::TooLarge)));
         }
+        Ok(program)
     }
 }
 
