@@ -114,10 +114,8 @@ fn new_board(alloc: Global, setup: &Setup, most: u64) -> Result<Board, Refusal>
     ensures made { IfOk result (λ board. IsNew setup.now.program setup.now.limits (max most 1) board) }
     ensures none { IfErr result (IsNoBoard setup.now (max most 1)) }
 {
-    match Board::new(alloc, &setup.program, setup.limits, most.max(1)) {
-        Ok(board) => Ok(board),
-        Err(fault) => Err(Refusal::Fault(Fault::Board(fault))),
-    }
+    let board = Board::new(alloc, &setup.program, setup.limits, most.max(1))?;
+    Ok(board)
 }
 
 // Runs the board's history again, and prints what is asked for, and whether both ended alike.
@@ -210,10 +208,8 @@ fn run_again(alloc: Global, board: &Board) -> Result<Serial, Refusal>
     ensures serial { IfOk result (λ serial. Replays board.now serial) }
     ensures none { IfErr result HasNoSerial }
 {
-    match board.replay(alloc) {
-        Ok(serial) => Ok(serial),
-        Err(fault) => Err(Refusal::Fault(Fault::Serial(fault))),
-    }
+    let serial = board.replay(alloc)?;
+    Ok(serial)
 }
 
 // Prints what is asked for of both runs, as lines or as one object.

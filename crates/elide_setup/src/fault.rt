@@ -13,7 +13,7 @@ use ia_image::LoadFault;
 use std::alloc::AllocError;
 use text_out::{Failed, WriteFault};
 use thiserror::Error;
-use tm_core::{MachineFault, RunFault};
+use tm_core::{MachineFault, NoSuchCore, RunFault};
 use tm_hist::{BoardFault, SerialFault, StepFault};
 use tm_schedule::ScheduleFault;
 
@@ -142,6 +142,75 @@ impl From<Fault> for Refusal {
 
     fn from(fault: Fault) -> Refusal {
         Refusal::Fault(fault)
+    }
+}
+
+impl From<MachineFault> for Refusal {
+    ghost use Rattle.elide_setup.specs.declared.fault.Fault.TheVariants as fault;
+    ghost use Rattle.elide_setup.specs.declared.fault.Refusal.TheVariants as refusal;
+
+    ghost from_gives = { λ cause given. given ≡ refusal.Fault (fault.Machine cause) };
+
+    fn from(fault: MachineFault) -> Refusal {
+        Refusal::Fault(Fault::Machine(fault))
+    }
+}
+
+impl From<ScheduleFault> for Refusal {
+    ghost use Rattle.elide_setup.specs.declared.fault.Fault.TheVariants as fault;
+    ghost use Rattle.elide_setup.specs.declared.fault.Refusal.TheVariants as refusal;
+
+    ghost from_gives = { λ cause given. given ≡ refusal.Fault (fault.Schedule cause) };
+
+    fn from(fault: ScheduleFault) -> Refusal {
+        Refusal::Fault(Fault::Schedule(fault))
+    }
+}
+
+impl From<BoardFault> for Refusal {
+    ghost use Rattle.elide_setup.specs.declared.fault.Fault.TheVariants as fault;
+    ghost use Rattle.elide_setup.specs.declared.fault.Refusal.TheVariants as refusal;
+
+    ghost from_gives = { λ cause given. given ≡ refusal.Fault (fault.Board cause) };
+
+    fn from(fault: BoardFault) -> Refusal {
+        Refusal::Fault(Fault::Board(fault))
+    }
+}
+
+impl From<StepFault> for Refusal {
+    ghost use Rattle.elide_setup.specs.declared.fault.Fault.TheVariants as fault;
+    ghost use Rattle.elide_setup.specs.declared.fault.Refusal.TheVariants as refusal;
+
+    ghost from_gives = { λ cause given. given ≡ refusal.Fault (fault.Step cause) };
+
+    #[inline(always)]
+    fn from(fault: StepFault) -> Refusal {
+        Refusal::Fault(Fault::Step(fault))
+    }
+}
+
+impl From<SerialFault> for Refusal {
+    ghost use Rattle.elide_setup.specs.declared.fault.Fault.TheVariants as fault;
+    ghost use Rattle.elide_setup.specs.declared.fault.Refusal.TheVariants as refusal;
+
+    ghost from_gives = { λ cause given. given ≡ refusal.Fault (fault.Serial cause) };
+
+    fn from(fault: SerialFault) -> Refusal {
+        Refusal::Fault(Fault::Serial(fault))
+    }
+}
+
+impl From<NoSuchCore> for Refusal {
+    ghost use Rattle.elide_setup.specs.declared.fault.Fault.TheVariants as fault;
+    ghost use Rattle.elide_setup.specs.declared.fault.Refusal.TheVariants as refusal;
+    ghost use Rattle.tm_core.specs.declared.fault.RunFault.TheVariants as run;
+
+    ghost from_gives = { λ _ given. given ≡ refusal.Fault (fault.Run run.NoSuchCore) };
+
+    #[inline(always)]
+    fn from(_none: NoSuchCore) -> Refusal {
+        Refusal::Fault(Fault::Run(RunFault::NoSuchCore))
     }
 }
 

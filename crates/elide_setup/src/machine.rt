@@ -23,7 +23,7 @@ ghost use Rattle.elide_setup.specs.Runs.{IsRunOf};
 ghost use Rattle.elide_setup.specs.Schedules.{AreOf, ArePlanned, form_of, plan_form};
 ghost use Rattle.elide_setup.specs.Setup.{IsSetup};
 
-use crate::fault::{Fault, Refusal};
+use crate::fault::Refusal;
 use crate::plan::{Course, Plan};
 use crate::shown::shown_memory;
 use elide_program::{MemoryParts, Paths, ProgramFile, Settings};
@@ -132,10 +132,8 @@ pub fn machine_like(alloc: Global, program: &Program, limits: Limits) -> Result<
     ensures cores { IfOk result (λ machine. length machine.views ≡ length program.now.entries) }
     ensures none { IfErr result (IsNoMachine limits) }
 {
-    match Machine::new(alloc, program, limits) {
-        Ok(machine) => Ok(machine),
-        Err(fault) => Err(Refusal::Fault(Fault::Machine(fault))),
-    }
+    let machine = Machine::new(alloc, program, limits)?;
+    Ok(machine)
 }
 
 /// A board of the program with room for so many steps, where what is to be printed of memory is there.
@@ -143,12 +141,8 @@ pub fn new_board(alloc: Global, setup: &Setup, limit: u64) -> Result<Board, Refu
     ensures made { IfOk result (λ board. IsNew setup.now.program setup.now.limits limit board) }
     ensures none { IfErr result (IsNoBoard setup.now limit) }
 {
-    match Board::new(alloc, &setup.program, setup.limits, limit) {
-        Ok(board) => {
-            // Before a step is made: what cannot be shown at the end is refused at once.
-            shown_memory(board.machine().view(), &setup.parts, &[])?;
-            Ok(board)
-        }
-        Err(fault) => Err(Refusal::Fault(Fault::Board(fault))),
-    }
+    let board = Board::new(alloc, &setup.program, setup.limits, limit)?;
+    // Before a step is made: what cannot be shown at the end is refused at once.
+    shown_memory(board.machine().view(), &setup.parts, &[])?;
+    Ok(board)
 }

@@ -299,8 +299,6 @@ fn steps_of(alloc: Global, text: &[u8]) -> Result<Vec<Pick>, Refusal>
     ensures none { (content : Option (List ℕ)) → Gives content most_bytes text.now
         → IfErr result (HasNoSchedule content) }
 {
-    match read_schedule(alloc, text) {
-        Ok(steps) => Ok(steps),
-        Err(fault) => Err(Refusal::Fault(Fault::Schedule(fault))),
-    }
+    let steps = read_schedule(alloc, text)?;
+    Ok(steps)
 }

@@ -91,7 +91,7 @@ impl StepMaker for Machine {
     // One call, in which a step costs a third of what it costs by itself.
     fn make_run(&mut self, core: u8, most: u32) -> Result<u32, Refusal> {
         self.nothing_pending();
-        ran(self.steps_alone(core, most))
+        told(self.steps_alone(core, most))
     }
 }
 
@@ -155,33 +155,16 @@ fn board_told(made: Result<Outcome, StepFault>) -> Result<Outcome, Refusal>
     ensures refused { IfErr result (λ why. (cause : StepFault) × (made ≡ Err cause)
         × (why ≡ refusal.Fault (fault.Step cause))) }
 {
-    match made {
-        Ok(outcome) => Ok(outcome),
-        Err(fault) => Err(Refusal::Fault(Fault::Step(fault))),
-    }
+    Ok(made?)
 }
 
-// A machine's answer, where there is no such core as the fault of a run.
+// A machine's answer to a step or to several of one core, where there is no such core as the fault of a run.
 #[inline(always)]
-fn told(made: Result<Outcome, NoSuchCore>) -> Result<Outcome, Refusal>
-    ensures made { IfOk result (λ outcome. made ≡ Ok outcome) }
+fn told<T: Copy>(made: Result<T, NoSuchCore>) -> Result<T, Refusal>
+    ensures made { IfOk result (λ value. made ≡ Ok value) }
     ensures refused { IfErr result (λ why. IsErr made × (why ≡ refusal.Fault (fault.Run run.NoSuchCore))) }
 {
-    match made {
-        Ok(outcome) => Ok(outcome),
-        Err(NoSuchCore) => Err(Refusal::Fault(Fault::Run(RunFault::NoSuchCore))),
-    }
-}
-
-// As [`told`], of a machine's answer to several steps of one core.
-fn ran(made: Result<u32, NoSuchCore>) -> Result<u32, Refusal>
-    ensures made { IfOk result (λ count. made ≡ Ok count) }
-    ensures refused { IfErr result (λ why. IsErr made × (why ≡ refusal.Fault (fault.Run run.NoSuchCore))) }
-{
-    match made {
-        Ok(count) => Ok(count),
-        Err(NoSuchCore) => Err(Refusal::Fault(Fault::Run(RunFault::NoSuchCore))),
-    }
+    Ok(made?)
 }
 
 impl Course {
