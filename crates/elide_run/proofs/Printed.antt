@@ -1,5 +1,5 @@
 -- What a run prints: of its steps, and behind what its device held.
-use Rattle.std.proofs.Common.{◌≡◌, ℕ, false, List, Option, length, subst}
+use Rattle.std.proofs.Common.{◌≡◌, ℕ, false, List, Option, length, refl, subst}
 use Rattle.std.specs.Borrow.{Bor}
 use Rattle.std.specs.Io.KnownBytes.{Keeps}
 use Rattle.text_out.specs.Writing.{Device}
@@ -17,7 +17,7 @@ use Rattle.tm_model.specs.declared.outcome.Pick.{Pick}
 use Rattle.elide_setup.specs.declared.machine.Setup.{Setup}
 use Rattle.elide_setup.specs.declared.opened.Opened.{Opened}
 use Rattle.elide_why.proofs.Passing.{kept_first}
-use Rattle.elide_run.specs.Printed.{HasStepped, IsRunAsAsked, IsRunOfOptions, IsStepped}
+use Rattle.elide_run.specs.Printed.{HasStepped, HasSteppedAs, IsRunAsAsked, IsRunOfOptions, IsStepped, trace_text}
 
 -- steps along the course that was opened are a run of the options
 abbrev pub run_of_options : (content after left : List ℕ → Option (List ℕ)) (options : RunOptions) (opened : Opened)
@@ -61,6 +61,22 @@ of_stepped left options opened path before machine after never h = record {
   wrote = h.4;
   recorded = h.5;
   out = h.6;
+}
+
+-- where neither is, the text is that of the outcomes
+pub of_traced : (left : List ℕ → Option (List ℕ)) (options : RunOptions) (opened : Opened)
+    (path : Option (Bor (List ℕ))) (before : Device) (machine : Machine) (after : Device) →
+    HasSteppedAs (trace_text options.traces) left opened path before machine after
+    → IsStepped left options opened path before machine after
+of_traced left options opened path before machine after h = record {
+  made = h.made;
+  steps = h.steps;
+  ran = h.ran;
+  lines = trace_text options.traces h.made;
+  traced = λ _ _. refl;
+  wrote = h.wrote;
+  recorded = h.recorded;
+  out = h.out;
 }
 
 pub kept_before : (content left : List ℕ → Option (List ℕ)) (options : RunOptions) (setup : Setup) (machine : Machine)

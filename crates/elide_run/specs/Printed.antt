@@ -39,6 +39,16 @@ HasStepped left opened path before machine after =
     × IsRecorded left path (schedule_made opened.course (picks_told made))
     × IsOut opened.course (length opened.setup.program.entries) made
 
+-- the same, where the text is this one of the steps
+pub record HasSteppedAs (text : List (Pick × Outcome) → List ℕ) (left : List ℕ → Option (List ℕ)) (opened : Opened)
+    (path : Option (Bor (List ℕ))) (before : Device) (machine : Machine) (after : Device) : Type 0 where
+  pub made : List (Pick × Outcome)
+  pub steps : AreOf opened.course (picks_made made)
+  pub ran : IsRunOf opened.setup.program opened.setup.limits made machine
+  pub wrote : Wrote before after (text made)
+  pub recorded : IsRecorded left path (schedule_made opened.course (picks_told made))
+  pub out : IsOut opened.course (length opened.setup.program.entries) made
+
 -- where neither instructions nor reasons are asked for, the text is that of their outcomes
 pub record IsStepped (left : List ℕ → Option (List ℕ)) (options : RunOptions) (opened : Opened)
     (path : Option (Bor (List ℕ))) (before : Device) (machine : Machine) (after : Device) : Type 0 where

@@ -5,7 +5,7 @@
 //! record, FILE, its schedule, the machine. The object's front is written once the machine is there, and what stands
 //! behind the outcomes when the last step is made. The texts of both are `elide_json`'s.
 
-ghost use Rattle.std.specs.Prelude.{◌≡◌, ◌≤◌, ◌<◌, ◌+◌, ◌++◌, ◌^◌, [], ◌∷◌, cond, length, not, true, IfErr, IfOk, List};
+ghost use Rattle.std.specs.Prelude.{◌≡◌, ◌≤◌, ◌<◌, ◌+◌, ◌++◌, ◌^◌, [], ◌∷◌, cond, length, not, true, IfErr, IfOk};
 ghost use Rattle.std.specs.Prelude.{OnErr, OnOk, if◌then◌else◌};
 ghost use Rattle.std.specs.Option.{option_copied};
 ghost use Rattle.arrayvec.specs.ArrayVec.{array_vec_len};
@@ -13,15 +13,11 @@ ghost use Rattle.text_out.specs.Writing.{Wrote};
 ghost use Rattle.elide_json.specs.Objects.{run_members};
 ghost use Rattle.elide_json.specs.Outcomes.{rows_text, run_back, run_front, run_rows};
 ghost use Rattle.elide_json.specs.Refused.{IsUnsaid, IsUnsent};
-ghost use Rattle.elide_setup.specs.Recorded.{IsRecorded};
 ghost use Rattle.elide_setup.specs.Refused.{IsAnyWant};
-ghost use Rattle.elide_setup.specs.Rounds.{IsOut};
-ghost use Rattle.elide_setup.specs.Runs.{AreMachineSteps, IsRunOf};
-ghost use Rattle.elide_setup.specs.Schedules.{AreOf, picks_made, picks_told, schedule_made};
-ghost use Rattle.tm_model.specs.declared.outcome.Outcome.{Outcome};
-ghost use Rattle.tm_model.specs.declared.outcome.Pick.{Pick};
+ghost use Rattle.elide_setup.specs.Runs.{AreMachineSteps};
 ghost use Rattle.elide_run.specs.Object.{IsEnd, IsObjectPrinted, asked_running, cores_ending, ending_status};
 ghost use Rattle.elide_run.specs.Object.{running_cores};
+ghost use Rattle.elide_run.specs.Printed.{HasSteppedAs};
 ghost use Rattle.elide_run.specs.Refused.{IsNoRun, IsRefused, IsUnexplained};
 
 use crate::halting::{Ending, has_stopped};
@@ -86,14 +82,10 @@ fn make_steps<P: Paths, O: Out + Drop, G: Progress>(
     progress: &mut G,
 ) -> Result<(Machine, Gathered<O>), Refusal>
     ensures refused { IfErr result (IsNoRun job.entry.opened.now.setup job.entry.opened.now.course job.entry.path) }
-    ensures made { IfOk result (λ r. (made : List (Pick × Outcome))
-        × AreOf job.entry.opened.now.course (picks_made made)
-        × IsRunOf job.entry.opened.now.setup.program job.entry.opened.now.setup.limits made r.0
-        × Wrote (⟦<Gathered<O> as Out>⟧.device page) (⟦<Gathered<O> as Out>⟧.device r.1)
-        (run_front job.entry.options.now.traces ++ run_rows job.entry.options.now.traces made)
-        × IsRecorded (P.content paths.new) job.entry.path
-        (schedule_made job.entry.opened.now.course (picks_told made))
-        × IsOut job.entry.opened.now.course (length job.entry.opened.now.setup.program.entries) made) }
+    ensures made { IfOk result (λ r. HasSteppedAs
+        (λ made. run_front job.entry.options.now.traces ++ run_rows job.entry.options.now.traces made)
+        (P.content paths.new) job.entry.opened.now job.entry.path (⟦<Gathered<O> as Out>⟧.device page) r.0
+        (⟦<Gathered<O> as Out>⟧.device r.1)) }
 {
     let Job {
         alloc,

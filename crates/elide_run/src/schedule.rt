@@ -5,17 +5,13 @@
 //! cores that run on. A list is recorded before its first step, a draw as it is made. The output is gathered, and
 //! handed on at the end or where it is much.
 
-ghost use Rattle.std.specs.Prelude.{◌≡◌, ◌⊎◌, IfErr, IfOk, List, false, length, true};
+ghost use Rattle.std.specs.Prelude.{◌≡◌, ◌⊎◌, IfErr, IfOk, false, true};
 ghost use Rattle.text_out.specs.Writing.{Wrote};
-ghost use Rattle.elide_setup.specs.Recorded.{IsRecorded};
 ghost use Rattle.elide_setup.specs.Refused.{IsUnwritten};
-ghost use Rattle.elide_setup.specs.Rounds.{IsOut};
-ghost use Rattle.elide_setup.specs.Runs.{AreMachineSteps, IsRunOf};
-ghost use Rattle.elide_setup.specs.Schedules.{AreOf, picks_made, picks_told, schedule_made};
-ghost use Rattle.tm_model.specs.declared.outcome.Outcome.{Outcome};
-ghost use Rattle.tm_model.specs.declared.outcome.Pick.{Pick};
+ghost use Rattle.elide_setup.specs.Runs.{AreMachineSteps};
 ghost use Rattle.elide_run.specs.Object.{IsObjectPrinted};
-ghost use Rattle.elide_run.specs.Printed.{IsPrinted, IsRunAsAsked, IsStepped, IsTold, outcome_lines, trace_text};
+ghost use Rattle.elide_run.specs.Printed.{HasSteppedAs, IsPrinted, IsRunAsAsked, IsStepped, IsTold};
+ghost use Rattle.elide_run.specs.Printed.{outcome_lines, trace_text};
 ghost use Rattle.elide_run.specs.Refused.{HasNotAll, IsNoRun, IsRefused};
 ghost use Rattle.elide_why.specs.Refused.{IsUntoldStep};
 
@@ -170,14 +166,9 @@ fn trace_steps<P: Paths, O: Out + Drop, G: Progress>(
     progress: &mut G,
 ) -> Result<(Machine, Gathered<O>), Refusal>
     ensures refused { IfErr result (IsNoRun job.entry.opened.now.setup job.entry.opened.now.course job.entry.path) }
-    ensures made { IfOk result (λ r. (made : List (Pick × Outcome))
-        × AreOf job.entry.opened.now.course (picks_made made)
-        × IsRunOf job.entry.opened.now.setup.program job.entry.opened.now.setup.limits made r.0
-        × Wrote (⟦<Gathered<O> as Out>⟧.device page) (⟦<Gathered<O> as Out>⟧.device r.1)
-        (trace_text job.entry.options.now.traces made)
-        × IsRecorded (P.content paths.new) job.entry.path
-        (schedule_made job.entry.opened.now.course (picks_told made))
-        × IsOut job.entry.opened.now.course (length job.entry.opened.now.setup.program.entries) made) }
+    ensures made { IfOk result (λ r. HasSteppedAs (trace_text job.entry.options.now.traces) (P.content paths.new)
+        job.entry.opened.now job.entry.path (⟦<Gathered<O> as Out>⟧.device page) r.0
+        (⟦<Gathered<O> as Out>⟧.device r.1)) }
 {
     let Job {
         alloc,

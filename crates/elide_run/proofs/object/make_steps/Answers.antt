@@ -13,17 +13,18 @@ returns-then-not-traces-clause-made g c =
     let setup = c.args.job.opened.now.setup in
     let course = c.args.job.opened.now.course in
     let traces = c.args.job.options.now.traces in
-    let made = c.in_ok-walk_recorded.ensures.walked in (
-      made.0,
-      made.1,
-      run_of_all setup.program setup.limits made.0 c.in_ok-machine.machine
+    let made = c.in_ok-walk_recorded.ensures.walked in
+    record {
+      made = made.0;
+      steps = made.1;
+      ran = run_of_all setup.program setup.limits made.0 c.in_ok-machine.machine
           c.walk_recorded.new.maker
-          c.in_ok-machine.ensures.made made.2,
-      wrote_no_rows _ _ traces made.0 c.if-not-traces.true c.in_ok-page.ensures.wrote,
-      made.3,
-      subst (λ (n : ℕ). IsOut course n made.0)
-          (c.cores-cores.ensures.count ∙ c.in_ok-machine.ensures.cores) made.4,
-    )
+          c.in_ok-machine.ensures.made made.2;
+      wrote = wrote_no_rows _ _ traces made.0 c.if-not-traces.true c.in_ok-page.ensures.wrote;
+      recorded = made.3;
+      out = subst (λ (n : ℕ). IsOut course n made.0)
+          (c.cores-cores.ensures.count ∙ c.in_ok-machine.ensures.cores) made.4;
+    }
 
 pub returns-clause-made : goal.returns-clause-made
 returns-clause-made g c =
@@ -37,17 +38,18 @@ returns-clause-made g c =
           m.page.row.items;
       failures = m.page.failures;
     })
-    (λ m. m.made) (λ _ _ _ h. h) in (
-      made.0,
-      made.1,
-      run_of_all setup.program setup.limits made.0 c.in_ok-machine.machine
+    (λ m. m.made) (λ _ _ _ h. h) in
+    record {
+      made = made.0;
+      steps = made.1;
+      ran = run_of_all setup.program setup.limits made.0 c.in_ok-machine.machine
           c.walk_recorded-2.new.maker.machine
-          c.in_ok-machine.ensures.made all.leads,
-      wrote_rows _ _ _ traces made.0 c.if-not-traces.false c.in_ok-page.ensures.wrote all.wrote,
-      made.3,
-      subst (λ (n : ℕ). IsOut course n made.0)
-          (c.cores-cores.ensures.count ∙ c.in_ok-machine.ensures.cores) made.4,
-    )
+          c.in_ok-machine.ensures.made all.leads;
+      wrote = wrote_rows _ _ _ traces made.0 c.if-not-traces.false c.in_ok-page.ensures.wrote all.wrote;
+      recorded = made.3;
+      out = subst (λ (n : ℕ). IsOut course n made.0)
+          (c.cores-cores.ensures.count ∙ c.in_ok-machine.ensures.cores) made.4;
+    }
 
 pub returns-in_err-walk_recorded-clause-refused : goal.returns-in_err-walk_recorded-clause-refused
 returns-in_err-walk_recorded-clause-refused g c =

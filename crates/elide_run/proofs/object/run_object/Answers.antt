@@ -32,7 +32,7 @@ returns-clause-printed g c =
     let first : Option (List ℕ) = (g.O.Out.device c.args.out).contents in
     let begun : Option (List ℕ) = held c.new-page.result in
     let between : Option (List ℕ) = held c.in_ok-machine.page in
-    let above : List ℕ = run_front options.traces ++ run_rows options.traces made.0 in
+    let above : List ℕ = run_front options.traces ++ run_rows options.traces made.made in
     IfOk-weaker c.tell_end-told.result
     (λ (r : Ending × g.row.O.Denot). IsEnd options setup machine r.0 between (g.O.Out.device r.1).contents)
     (λ (r : Ending × g.row.O.Denot). IsObjectPrinted content left options r.0 first (g.O.Out.device r.1).contents)
@@ -44,14 +44,14 @@ returns-clause-printed g c =
       setup = setup;
       machine = machine;
       run = run_of_options content (g.P.Paths.content c.record_path.new.paths) left options c.in_ok-opened.opened
-          c.in_ok-path.path machine made.0 c.record_path.ensures.kept opened.setup opened.course opened.listed
-          opened.out c.in_ok-path.ensures.given made.1 made.2 made.5 made.4;
+          c.in_ok-path.path machine made.made c.record_path.ensures.kept opened.setup opened.course opened.listed
+          opened.out c.in_ok-path.ensures.given made.steps made.ran made.out made.recorded;
       came_to = end.came_to;
       wrote = subst (λ (text : List ℕ). Appends first last text)
-          (append_assoc (run_front options.traces) (run_rows options.traces made.0) back
-          ∙ run_text options.traces made.0 _ _ _)
+          (append_assoc (run_front options.traces) (run_rows options.traces made.made) back
+          ∙ run_text options.traces made.made _ _ _)
           (kept_first first begun last (above ++ back) c.new-page.ensures.kept
-          (appends_then begun between last above back made.3.bytes end.wrote));
+          (appends_then begun between last above back made.wrote.bytes end.wrote));
     })
     c.tell_end-told.ensures.told
 
@@ -91,5 +91,5 @@ returns-clause-refused g c =
     (c.record_path.ensures.kept options.machine.file.now) c.in_ok-opened.ensures.setup in
     IfErr-weaker c.tell_end-told.result (IsUnsent machine.memory setup.parts)
     (IsRefused content (g.P.Paths.are_one c.args.paths.now) options)
-    (λ why h. of_object content (g.P.Paths.are_one c.args.paths.now) options setup machine made.0 why is made.2 h)
+    (λ why h. of_object content (g.P.Paths.are_one c.args.paths.now) options setup machine made.made why is made.ran h)
     c.tell_end-told.ensures.unsent

@@ -1,7 +1,5 @@
-use Rattle.std.proofs.Common.{refl}
 use Rattle.std.proofs.lemmas.Result.{IfOk-weaker}
-use Rattle.elide_run.specs.Printed.{trace_text}
-use Rattle.elide_run.proofs.Printed.{of_stepped}
+use Rattle.elide_run.proofs.Printed.{of_stepped, of_traced}
 use Rattle.elide_run.proofs.schedule.tell_steps.Goals as goal
 
 pub returns-in-true-true-clause-made : goal.returns-in-true-true-clause-made
@@ -28,14 +26,5 @@ returns-in-false-true-clause-made g c =
 pub returns-in-false-false-clause-made : goal.returns-in-false-false-clause-made
 returns-in-false-false-clause-made g c =
     IfOk-weaker c.trace_steps.result _ _
-    (λ r h. record {
-      made = h.0;
-      steps = h.1;
-      ran = h.2;
-      lines = trace_text c.args.job.options.now.traces h.0;
-      traced = λ _ _. refl;
-      wrote = h.3;
-      recorded = h.4;
-      out = h.5;
-    })
+    (λ r h. of_traced _ c.args.job.options.now c.args.job.opened.now c.args.job.path _ r.0 _ h)
     c.trace_steps.ensures.made
