@@ -22,7 +22,7 @@ use crate::shows::{Shown, shown_of};
 use elide_device::Gathered;
 use elide_program::{Paths, Text};
 use elide_setup::{Fault, Refusal};
-use page_run::{LineUse, note_shown};
+use page_run::{UsedLine, note_shown};
 use page_telling::write_steps;
 use page_template::{write_head, write_tail};
 use std::alloc::AllocError;
@@ -120,7 +120,7 @@ fn finish<O: Out + Drop>(page: Gathered<O>) -> Result<O, Refusal>
 }
 
 // How a run uses memory, with the lines of the variables.
-fn lines_with(job: &Job<'_>, shows: &[Shown<'_>]) -> Result<Vec<LineUse>, AllocError> {
+fn lines_with(job: &Job<'_>, shows: &[Shown<'_>]) -> Result<Vec<UsedLine>, AllocError> {
     let mut lines = Vec::from_slice(job.subject.loaded.alloc, job.survey.lines.as_slice())?;
     for shown in shows {
         note_shown(&mut lines, shown.address);

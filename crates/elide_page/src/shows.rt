@@ -12,7 +12,7 @@ ghost use Rattle.elide_page.specs.Fronts.{shown_text, shows_text};
 use elide_places::Places;
 use elide_setup::Setup;
 use page_program::Loaded;
-use page_run::{LineUse, Survey};
+use page_run::{Survey, UsedLine};
 use page_text::{NAME, write_comma, write_number, write_string};
 use std::alloc::AllocError;
 use symbols::Symbol;
@@ -62,16 +62,16 @@ fn add_sums<'a>(
     Ok(())
 }
 
-fn is_written(line: LineUse) -> bool {
+fn is_written(line: UsedLine) -> bool {
     line.written
 }
 
-fn is_read(line: LineUse) -> bool {
+fn is_read(line: UsedLine) -> bool {
     line.read
 }
 
 // Adds the labels of data on lines of such a use, as far as there is room.
-fn add_labels<'a, F: Fn(LineUse) -> bool>(
+fn add_labels<'a, F: Fn(UsedLine) -> bool>(
     list: &mut Vec<Shown<'a>>,
     setup: &Setup,
     places: &'a Places,
@@ -89,7 +89,7 @@ fn add_labels<'a, F: Fn(LineUse) -> bool>(
 }
 
 // Whether a label stands outside of the code, on a line of such a use, with four bytes of memory behind it.
-fn is_variable<F: Fn(LineUse) -> bool>(
+fn is_variable<F: Fn(UsedLine) -> bool>(
     setup: &Setup,
     label: &Symbol,
     survey: &Survey,

@@ -13,5 +13,5 @@ mod window;
 
 pub use plain::{put_piece, put_plain};
 pub use stretch::Stretch;
-pub use survey::{LINE, LineUse, Survey, note_shown, surveyed};
+pub use survey::{LINE, Survey, UsedLine, note_shown, surveyed};
 pub use window::{MOST_STEPS, Window};

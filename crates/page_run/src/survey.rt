@@ -22,7 +22,7 @@ pub const LINE: usize = 64;
 
 /// How the steps of a run used a line of memory.
 #[derive(Clone, Copy, PartialEq, Eq, Debug)]
-pub struct LineUse {
+pub struct UsedLine {
     /// Whether a step loaded from it or stored to it.
     pub touched: bool,
     /// Whether one loaded from it inside a transaction.
@@ -37,7 +37,7 @@ pub struct Survey {
     /// How many steps it has.
     pub made: u64,
     /// By its number, how each line of memory was used up to the last step that is asked for.
-    pub lines: Vec<LineUse>,
+    pub lines: Vec<UsedLine>,
     /// By its distance from the first, whether an instruction at a byte of the code was to run in a step that is asked
     /// for.
     pub ran: Vec<bool>,
@@ -92,7 +92,7 @@ fn finished(surveyor: Surveyor, walked: Result<Vec<Pick>, Refusal>) -> Result<Su
 fn blank(alloc: Global, setup: &Setup, size: usize) -> Result<Survey, Refusal>
     ensures refused { IfErr result (λ why. why ≡ want) }
 {
-    let unused = LineUse {
+    let unused = UsedLine {
         touched: false,
         read: false,
         written: false,
@@ -172,7 +172,7 @@ impl Survey {
 }
 
 /// Takes in the lines of a variable.
-pub fn note_shown(lines: &mut Vec<LineUse>, address: u32) {
+pub fn note_shown(lines: &mut Vec<UsedLine>, address: u32) {
     let access = Access {
         addr: address,
         width: Width::D,
@@ -185,7 +185,7 @@ fn is_open(machine: &Machine, core: u8) -> bool {
 }
 
 // Takes in the lines of an access, of which there are one or two.
-fn note_lines(lines: &mut Vec<LineUse>, access: Option<Access>, read: bool, written: bool) {
+fn note_lines(lines: &mut Vec<UsedLine>, access: Option<Access>, read: bool, written: bool) {
     let Some(access) = access else {
         return;
     };
@@ -197,7 +197,7 @@ fn note_lines(lines: &mut Vec<LineUse>, access: Option<Access>, read: bool, writ
 }
 
 // Takes in the line of an address, where memory has it.
-fn note_line(lines: &mut Vec<LineUse>, address: u32, read: bool, written: bool) {
+fn note_line(lines: &mut Vec<UsedLine>, address: u32, read: bool, written: bool) {
     if let Some(line) = lines.get_mut(address as usize / LINE) {
         line.touched = true;
         line.read = line.read || read;

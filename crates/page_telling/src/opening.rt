@@ -10,7 +10,7 @@ ghost use Rattle.page_run.specs.Plain.{WrotePlain};
 
 use crate::kept::Kept;
 use elide_setup::{Fault, Refusal};
-use page_run::{LINE, LineUse, put_piece};
+use page_run::{LINE, UsedLine, put_piece};
 use page_steps::{register_values, write_numbers, write_state, write_stored};
 use page_text::{write_comma, write_hex, write_number};
 use std::alloc::{AllocError, Global};
@@ -37,7 +37,7 @@ pub fn put_opening<O: Out>(
     alloc: Global,
     machine: &Machine,
     behind: &Behind,
-    lines: &[LineUse],
+    lines: &[UsedLine],
     out: &mut O,
 ) -> Result<(), Refusal>
     ensures text { OnOk result (WrotePlain (O.device out.old) (O.device out.new)) }
@@ -52,7 +52,7 @@ fn write_opening<O: Out>(
     alloc: Global,
     machine: &Machine,
     behind: &Behind,
-    lines: &[LineUse],
+    lines: &[UsedLine],
     out: &mut O,
 ) -> Result<(), Refusal>
     ensures { IfErr result IsUntold }
@@ -241,7 +241,7 @@ fn write_doom<O: Out>(
 // The lines of memory that were used and are not zero.
 fn write_bytes<O: Out>(
     machine: &Machine,
-    lines: &[LineUse],
+    lines: &[UsedLine],
     out: &mut O,
 ) -> Result<(), WriteFault> {
     let memory = machine.view();

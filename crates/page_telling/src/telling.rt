@@ -24,7 +24,7 @@ use crate::kept::Kept;
 use crate::opening::{Behind, put_opening};
 use elide_device::Silent;
 use elide_setup::{Fault, Refusal, StepMaker, new_machine};
-use page_run::{LineUse, Stretch, Window, put_plain};
+use page_run::{Stretch, UsedLine, Window, put_plain};
 use page_steps::write_step;
 use std::alloc::{AllocError, Global};
 use text_out::{Out, ToVec, WriteFault};
@@ -37,7 +37,7 @@ use tm_why::Watch;
 /// back.
 pub fn write_steps<O: Out + Drop>(
     stretch: Stretch<'_>,
-    lines: &[LineUse],
+    lines: &[UsedLine],
     out: O,
 ) -> Result<O, Refusal>
     ensures written { IfOk result (λ last. AreLinesWritten stretch.entry (O.device out) (O.device last)) }
@@ -105,7 +105,7 @@ struct Telling<O> {
     // How many were made.
     made: u64,
     // How the run uses memory.
-    lines: Vec<LineUse>,
+    lines: Vec<UsedLine>,
     out: O,
 }
 
@@ -275,7 +275,7 @@ struct Standing<'a> {
     made: u64,
     machine: &'a Machine,
     behind: &'a Behind,
-    lines: &'a [LineUse],
+    lines: &'a [UsedLine],
 }
 
 // Writes what stands in a page of a step: its line, or what opens the page behind it, or nothing.
