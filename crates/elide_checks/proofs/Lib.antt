@@ -9,3 +9,4 @@ mod Clauses
 mod Digits
 mod Operators
 mod Reasons
+mod Limits

@@ -11,18 +11,15 @@ ghost use Rattle.elide_program.specs.Settings.{number_or, number_said};
 ghost use Rattle.elide_setup.specs.Jobs.{AreJobs};
 ghost use Rattle.elide_setup.specs.Misuse.{IsMisuse};
 ghost use Rattle.elide_checks.specs.Refused.{AreNoOrders};
-ghost use Rattle.elide_checks.specs.Runs.{AreNoRuns, AreRuns, IsNoLimit, IsNoMethod, events_asked, method_word};
+ghost use Rattle.elide_checks.specs.Runs.{AreNoRuns, AreRuns, IsNoMethod, events_asked, method_word};
 ghost use Rattle.tm_pick.specs.declared.method.Method.{Method as MethodOf};
 
 use crate::cut::cut;
 use elide_args::HuntOptions;
 use elide_program::number_of;
-use elide_setup::{Refusal, jobs_of};
+use elide_setup::{Refusal, jobs_of, limit_of};
 use std::thread::Threads;
 use tm_pick::{Events, Method};
-
-/// The most steps of a run, where no limit is given.
-const MOST_STEPS: u32 = 1_000_000;
 
 /// What is asked of a search.
 #[derive(Clone, Copy)]
@@ -59,7 +56,7 @@ impl Orders {
         let seed = number_of(options.seed, "--seed")?;
         let method = method_of(options.method)?;
         let events = events_of(options.events)?;
-        let most = most_of(options.limit)?;
+        let most = limit_of(options.limit)?;
         let jobs = jobs_of(rt, options.jobs)?;
         Ok(Orders {
             seed,
@@ -143,19 +140,5 @@ fn events_of(text: Option<&str>) -> Result<Events, Refusal>
         Ok(Events::Draw)
     } else {
         elide_setup::events_of(text)
-    }
-}
-
-// The most steps of a run, 1 or more.
-fn most_of(text: Option<&str>) -> Result<u32, Refusal>
-    ensures ok { IfOk result (λ most. (number_or 1000000 (option_copied text.entry) ≡ Some most) × (1 ≤ most)) }
-    ensures err { IfErr result (λ why. IsNoLimit (option_copied text.entry) × IsMisuse (codes "--limit") why) }
-{
-    let Some(text) = text else {
-        return Ok(MOST_STEPS);
-    };
-    match number_of(Some(text), "--limit")? {
-        0 => Err(Refusal::Usage("--limit")),
-        most => Ok(most),
     }
 }
