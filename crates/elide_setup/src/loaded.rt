@@ -2,8 +2,8 @@
 //!
 //! [`LoadedFile::of_text`] is for who has read FILE and its schedule's options by itself: it tells the faults of FILE's
 //! text, then of the loading. [`LoadedFile::with_course`] goes in the order in which the faults of a command with a
-//! schedule are told: the machine's options, the schedule's, FILE, the program in it, and what [`planned`] tells. FILE's
-//! names are taken last, and only memory can be wanting for them. No machine is made here: that is `machine`.
+//! schedule are told: the machine's options, the schedule's, FILE, the program in it, and what [`planned`] tells.
+//! FILE's names are taken last, and only memory can be wanting for them. No machine is made here: that is `machine`.
 
 ghost use Rattle.std.specs.Prelude.{IfErr, IfOk};
 ghost use Rattle.elide_setup.specs.Loaded.{IsLoaded, IsLoadedWith};

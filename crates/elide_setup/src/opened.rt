@@ -1,13 +1,13 @@
 //! What a command that runs a schedule begins with, of one reading of FILE: `run` and `replay`.
 //!
-//! [`Opened::read`] is [`LoadedFile::with_course`], whose order of faults it has, without what these two do not ask for.
-//! No machine is made here: that is `machine`.
+//! [`Opened::read`] is [`LoadedFile::with_course`], whose order of faults it has, without what these two do not ask
+//! for. No machine is made here: that is `machine`.
 //!
 //! Other commands ask FILE for more, or for it at another time, and so do without it:
 //!
 //! - `debug` and `gdb` want FILE's symbols, too: with a schedule [`LoadedFile::with_course`] itself is theirs.
-//! - `draw`, `page` and the sessions without a schedule take [`LoadedFile::of_text`]: what they read of a schedule's file
-//!   comes behind FILE's program, and its faults with it.
+//! - `draw`, `page` and the sessions without a schedule take [`LoadedFile::of_text`]: what they read of a schedule's
+//!   file comes behind FILE's program, and its faults with it.
 //! - `hunt` and `outcomes` test their checks and names on the file that was read, before it is loaded, and `stats` and
 //!   `threads` name by it what they count: they keep it in hand.
 

@@ -2,8 +2,8 @@
 //!
 //! [`Labels::of_file`] takes the symbols once, in their order, those alone that can stand in the program's memory, as
 //! `elide_places` says; [`Labels::place`] and [`Labels::line`] then look for the nearest, of several at one address for
-//! the last. A dash is told where there is none. In which form names are told is said at the start, as JSON escapes them
-//! itself and columns do not.
+//! the last. A dash is told where there is none. In which form names are told is said at the start, as JSON escapes
+//! them itself and columns do not.
 
 use elide_places::{Naming, placed_symbols};
 use elide_program::ProgramFile;
