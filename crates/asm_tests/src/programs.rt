@@ -1,4 +1,4 @@
-//! Sources that several tests read.
+//! Sources that several tests read: transactions with fallbacks and elided locks.
 
 /// A transaction in front of its fallback.
 pub const WORKED: &[u8] = b"\

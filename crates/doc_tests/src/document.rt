@@ -1,4 +1,4 @@
-//! The commands of a document.
+//! The commands of a document, each with the lines that the document shows below it. Nothing is run here.
 
 use std::alloc::{AllocError, Global};
 

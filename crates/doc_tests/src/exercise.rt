@@ -59,12 +59,12 @@ fn elide<R: Threads + Wait + Sync + AllocGlobal + Files, P: Paths + SharedPaths 
         Some(path) => fs::read(rt, path.as_str())?,
         None => Vec::new(rt.alloc()),
     };
-    let told = reply_to(rt, words, paths, given.as_slice(), ALL)?;
-    let mut said = told.out;
+    let reply = reply_to(rt, words, paths, given.as_slice(), ALL)?;
+    let mut said = reply.out;
     if let Some(path) = &line.output {
         fs::write(rt, path.as_str(), said.as_str())?;
         said.clear();
     }
-    said.push_str(told.err.as_str())?;
+    said.push_str(reply.err.as_str())?;
     Ok(said)
 }

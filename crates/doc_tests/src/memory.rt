@@ -1,4 +1,4 @@
-//! Files in memory.
+//! Files in memory: what the commands of a row read and write in the place of a folder.
 
 ghost use Rattle.std.specs.Prelude.{◌≤◌, IfOk, None, length};
 

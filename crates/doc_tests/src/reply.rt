@@ -1,6 +1,6 @@
 //! What a command line of `elide` comes to.
 
-use crate::wanted::{Devices, Room, Told};
+use crate::wanted::{Devices, ReplyText, Room};
 use elide_command::Streams;
 use elide_device::{Silent, Surroundings, Terminals};
 use elide_program::Paths;
@@ -27,8 +27,8 @@ pub struct Reply {
 
 impl Reply {
     /// The same, to be compared.
-    pub fn told(&self) -> Told<'_> {
-        Told {
+    pub fn text(&self) -> ReplyText<'_> {
+        ReplyText {
             status: self.status,
             out: self.out.as_str(),
             err: self.err.as_str(),

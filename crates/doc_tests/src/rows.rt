@@ -81,13 +81,13 @@ impl<'a> Course<'a> {
         out: &mut W,
     ) -> io::Result<()> {
         self.commands = self.commands.saturating_add(1);
-        let told = said(rt, command, &mut self.memory, room_of(lines))?;
-        if !is_wanted(lines, told.told(), self.before.as_str()) {
+        let reply = said(rt, command, &mut self.memory, room_of(lines))?;
+        if !is_wanted(lines, reply.text(), self.before.as_str()) {
             self.wrong = self.wrong.saturating_add(1);
-            writeln!(out, "{}: {command} comes to {}", self.title, told.status)?;
-            writeln!(out, "{}{}", told.out, told.err)?;
+            writeln!(out, "{}: {command} comes to {}", self.title, reply.status)?;
+            writeln!(out, "{}{}", reply.out, reply.err)?;
         }
-        self.before = told.out;
+        self.before = reply.out;
         Ok(())
     }
 }

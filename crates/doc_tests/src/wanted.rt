@@ -2,7 +2,7 @@
 
 /// What a command came to.
 #[derive(Clone, Copy, Debug)]
-pub struct Told<'a> {
+pub struct ReplyText<'a> {
     /// The exit status.
     pub status: u8,
     /// What stands on standard output.
@@ -42,8 +42,10 @@ const AT_TERMINAL: &str = "at a terminal in colours";
 
 /// Whether the lines below a command say just this status, standard output and standard error. `before` is what the
 /// row's command before printed.
-pub fn is_wanted(lines: &[&str], told: Told<'_>, before: &str) -> bool {
-    is_status(lines, told.status) && is_output(lines, told.out, before) && is_error(lines, told.err)
+pub fn is_wanted(lines: &[&str], reply: ReplyText<'_>, before: &str) -> bool {
+    is_status(lines, reply.status)
+        && is_output(lines, reply.out, before)
+        && is_error(lines, reply.err)
 }
 
 /// How many bytes the input gives and the outputs take: those of the lines `gives N`, `takes N` and `hears N`, or all.

@@ -1,4 +1,4 @@
-//! The words of a command.
+//! The words of a command as a shell has them: quotes, and the files that its input and output go to.
 
 use std::alloc::{AllocError, Global};
 

@@ -1,4 +1,4 @@
-//! The numbers of a table.
+//! The numbers of a table that a processor wrote, one behind the other, in hex.
 
 /// What is left of a text of numbers in hex, each with a blank behind it.
 #[derive(Drop)]
