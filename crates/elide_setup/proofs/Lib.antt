@@ -6,6 +6,7 @@ pub mod Alone
 pub mod Boards
 pub mod Drawing
 pub mod DueCores
+mod Histories
 pub mod Made
 pub mod Misread
 pub mod NoSteps

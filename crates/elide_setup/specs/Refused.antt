@@ -18,6 +18,7 @@ use Rattle.elide_program.specs.declared.file.ProgramFile.{ProgramFile}
 use Rattle.elide_program.specs.declared.paths.ReadFault.{ReadFault}
 use Rattle.elide_program.specs.declared.paths.ReadFault.TheVariants as read
 use Rattle.elide_program.specs.declared.settings.Settings.{Settings}
+use Rattle.tm_model.specs.Runs.{picks_of}
 use Rattle.tm_model.specs.declared.outcome.Outcome.{Outcome}
 use Rattle.tm_model.specs.declared.outcome.Pick.{Pick}
 use Rattle.tm_schedule.specs.Schedule.{schedule_of, steps_of}
@@ -252,6 +253,11 @@ pub data IsNoStep (board : Board) (pick : Pick) (why : Refusal) : Type 0 where
 -- behind these steps a step of a list is due: the next one
 abbrev pub IsNextOf : List Pick → List (Pick × Outcome) → Pick → Type 0
 IsNextOf listed made pick = (later : List Pick) × (listed ≡ picks_made made ++ pick ∷ later)
+
+-- one of a board's history, each of which is of one of its program's cores
+pub record IsNextMade (board : Board) (made : List (Pick × Outcome)) (pick : Pick) : Type 0 where
+  pub next : IsNextOf (picks_of board.history) made pick
+  pub core : pick.core < length board.program.entries
 
 -- one that is drawn on so many cores: of a core that has not stopped, where fewer steps were made than may be drawn
 pub record IsNextDrawn (drawn : Drawn) (cores : ℕ) (made : List (Pick × Outcome)) (pick : Pick) : Type 0 where

@@ -14,6 +14,7 @@
 mod events;
 mod extent;
 mod fault;
+mod history;
 mod jobs;
 mod keeper;
 mod loaded;
@@ -31,6 +32,7 @@ mod walk;
 pub use events::{events_of, kinds_of};
 pub use extent::Extent;
 pub use fault::{Fault, Refusal};
+pub use history::walk_history;
 pub use jobs::jobs_of;
 pub use loaded::LoadedFile;
 pub use machine::{Setup, machine_like, new_board, new_machine, planned};

@@ -2,8 +2,9 @@
 use Rattle.std.proofs.Common.{◌≡◌, ◌<◌, ◌≤◌, ℕ, Bool, List, Option, ◌⊎◌, length, arith, inl, inr}
 use Rattle.std.specs.Borrow.{Bor}
 use Rattle.std.specs.Prelude.{All}
-use Rattle.elide_setup.specs.Refused.{IsAnyWant, IsNoWalk, IsUnrecorded}
+use Rattle.elide_setup.specs.Refused.{IsAnyWant, IsNextMade, IsNoWalk, IsStepRefused, IsUnrecorded}
 use Rattle.elide_setup.specs.Schedules.{listed_in}
+use Rattle.tm_hist.specs.Board.{ShownBoard as Board}
 use Rattle.tm_core.specs.Theorem.{ShownMachine as Machine}
 use Rattle.elide_setup.specs.declared.fault.Refusal.{Refusal}
 use Rattle.elide_setup.specs.declared.plan.Course.{Course}
@@ -35,3 +36,14 @@ of_walk same asked cores path before why has fit (inl (inl h)) =
     unroomed (of_step h.after.machine h.pick why (omega arith) h.refused)
 of_walk same asked cores path before why has fit (inl (inr none)) = unroomed (inr none)
 of_walk same asked cores path before why has fit (inr h) = unrecorded h
+
+-- the steps of a board are not made again, on a machine with the cores of its program
+pub of_history : (same : AbortCause → AbortCause → Bool) (board : Board) (before : Counting) (why : Refusal) →
+    length before.machine.views ≡ length board.program.entries →
+    IsStepRefused (Counts same) (λ counting pick why. IsUncountedStep counting.machine pick why) (IsNextMade board)
+    before why → IsAnyWant why
+of_history same board before why has h =
+    let kept : length h.after.machine.views ≡ length before.machine.views =
+    same_cores h.made before.machine h.after.machine (walk_counted same h.made before h.after h.lead).0 in
+    let below : h.pick.core < length board.program.entries = h.due.core in
+    of_step h.after.machine h.pick why (omega arith) h.refused

@@ -23,7 +23,7 @@ use crate::asked::Asked;
 use crate::hits::{CoreBytes, Hits};
 use elide_device::Progress;
 use elide_program::Paths;
-use elide_setup::{Course, Fault, PORTION, Refusal, StepMaker};
+use elide_setup::{Course, Fault, Refusal, StepMaker, walk_history};
 use std::alloc::{AllocError, Global};
 use tm_core::{Machine, RunFault};
 use tm_hist::Board;
@@ -111,7 +111,7 @@ impl Counting {
         course.walk_recorded(alloc, cores, path, self, paths, progress)
     }
 
-    /// Makes the steps of a board's history, on a machine with the cores of its program.
+    /// Makes the steps of a board's history, on a machine with the cores of its program: only memory can be wanting.
     pub fn run_history<G: Progress>(
         &mut self,
         board: &Board,
@@ -122,15 +122,7 @@ impl Counting {
         ensures ran { IfOk result (λ _. (made : List (Pick × Outcome)) × (picks_made made ≡ picks_of board.now.history)
             × GoOn ⟦<AbortCause as PartialEq>⟧.eq self.old made self.new) }
     {
-        let steps = board.made();
-        for index in 0..steps {
-            if index % PORTION as u64 == 0 {
-                progress.tell(index, steps, "steps");
-            }
-            // The machine has the core of each step: only memory can be wanting.
-            self.make_step(board.pick_at(index as usize).unwrap())?;
-        }
-        Ok(())
+        walk_history(board, self, progress)
     }
 
     /// Brings the counts into the order in which they are told.

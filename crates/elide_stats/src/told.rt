@@ -157,8 +157,6 @@ fn tell_made<O: Out, G: Progress>(
     requires none { AreCounts ⟦<AbortCause as PartialEq>⟧.eq counting.old.counts [] }
     ensures { IfErr result IsUntold }
 {
-    let counted = counting.run_history(board, progress);
-    progress.end();
-    counted?;
+    counting.run_history(board, progress)?;
     tell_counting(form, CountedRun::Made(board), counting, out)
 }

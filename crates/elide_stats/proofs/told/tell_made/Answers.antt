@@ -6,14 +6,14 @@ use Rattle.elide_stats.proofs.told.tell_made.Goals as goal
 
 pub tell_counting-requires : goal.tell_counting-requires
 tell_counting-requires g c =
-    let made = c.in_ok-counted.ensures.ran in
-    counted_since (causes.ghosts).eq _ c.args.counting.now c.run_history-counted.new.self made.0 c.requires.first made.1
+    let made = c.in_ok-run_history.ensures.ran in
+    counted_since (causes.ghosts).eq _ c.args.counting.now c.run_history.new.self made.0 c.requires.first made.1
     c.requires.none made.2
 
-pub run_history-counted-requires : goal.run_history-counted-requires
-run_history-counted-requires g c = c.requires.first.is_run.same.cores ∙ c.requires.first.cores
+pub run_history-requires : goal.run_history-requires
+run_history-requires g c = c.requires.first.is_run.same.cores ∙ c.requires.first.cores
 
-pub returns-in_err-counted : goal.returns-in_err-counted
-returns-in_err-counted g c =
+pub returns-in_err-run_history : goal.returns-in_err-run_history
+returns-in_err-run_history g c =
     let p = err_from_is_err_and c.from_residual.result c.from_residual.ensures.1 in
-    rw (p.1, p.2) (inr c.in_err-counted.ensures.refused)
+    rw (p.1, p.2) (inr c.in_err-run_history.ensures.refused)
