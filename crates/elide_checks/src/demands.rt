@@ -102,10 +102,20 @@ fn checks_of(
         (AreNoDemands scope.now.file.now options.now) }
 {
     let mut checks = Vec::new(alloc);
-    let demands = options.checks.as_slice();
-    let forbids = options.forbids.as_slice();
-    add_checks(alloc, &mut checks, ConditionOption::Check, demands, scope)?;
-    add_checks(alloc, &mut checks, ConditionOption::Forbid, forbids, scope)?;
+    add_checks(
+        alloc,
+        &mut checks,
+        ConditionOption::Check,
+        options.checks.as_slice(),
+        scope,
+    )?;
+    add_checks(
+        alloc,
+        &mut checks,
+        ConditionOption::Forbid,
+        options.forbids.as_slice(),
+        scope,
+    )?;
     add_stops(&mut checks, options.stops.as_slice())?;
     add_halt(&mut checks, options.expects_halt)?;
     if checks.is_empty() {
