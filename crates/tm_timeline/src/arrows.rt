@@ -4,7 +4,7 @@ ghost use Rattle.std.specs.Prelude.{◌≤◌};
 
 use crate::bars::{BAR, draw_hit, draw_line};
 use crate::frame::Sheet;
-use crate::label::LineLabels;
+use crate::label::{LineLabels, ROOM};
 use crate::rows::MOST_CORES;
 use crate::spans::{Arrow, Hit, Spans};
 use crate::svg::Svg;
@@ -182,6 +182,6 @@ fn width_of<L: LineLabels>(hit: Hit, labels: &L) -> u32 {
         return 0;
     };
     let symbol = labels.label(used.line);
-    let characters = symbol.as_str().len().min(400) as u32 + 9;
+    let characters = symbol.as_str().len().min(ROOM) as u32 + 9;
     characters.saturating_mul(66).saturating_add(80)
 }

@@ -4,6 +4,7 @@ ghost use Rattle.std.specs.Prelude.{◌≤◌};
 
 use crate::bars::BAR;
 use crate::frame::Sheet;
+use crate::label::ROOM;
 use crate::step_text::StepText;
 use crate::svg::Svg;
 use crate::value::Tenths;
@@ -66,7 +67,7 @@ fn room_to(sheet: &Sheet<'_>, x: Tenths, next: Option<u32>) -> Tenths {
 
 // Whether a text with characters of this width has room.
 fn fits(text: &str, room: Tenths, character: u32) -> bool {
-    room.0 >= character.saturating_mul(text.len().min(400) as u32)
+    room.0 >= character.saturating_mul(text.len().min(ROOM) as u32)
 }
 
 // The prefix, the mnemonic and the operands, each on a line of its own where it has room.

@@ -11,8 +11,8 @@ const NAME: usize = 60;
 /// How many characters of an instruction's text are shown: more than any has.
 const INSTRUCTION: usize = 110;
 
-// Room for the characters of a name, each of six bytes at most, and for the mark of what is left out.
-const ROOM: usize = 400;
+/// Room for the characters of a name, each of six bytes at most, and for the mark of what is left out.
+pub const ROOM: usize = 400;
 
 /// A text, escaped for XML, of which the first 60 characters are shown.
 #[derive(Drop)]

@@ -4,6 +4,7 @@ ghost use Rattle.std.specs.Prelude.{◌≤◌};
 
 use crate::svg::Svg;
 use crate::value::Value::{Number, Word};
+use crate::window::LEFT;
 use text_out::Out;
 
 // A class with its meaning.
@@ -18,7 +19,7 @@ struct Entry {
 // The classes of a picture of few steps. Only bars are hatched.
 const BARS: [Entry; 6] = [
     Entry {
-        x: 64,
+        x: LEFT,
         class: "b k",
         meaning: "committed",
     },
@@ -52,7 +53,7 @@ const BARS: [Entry; 6] = [
 // The classes of a picture of many steps.
 const AREAS: [Entry; 5] = [
     Entry {
-        x: 64,
+        x: LEFT,
         class: "b k",
         meaning: "committed",
     },
@@ -97,6 +98,9 @@ const TICKS: [Entry; 3] = [
     },
 ];
 
+// How far its first line stands below the axis.
+const BELOW: u32 = 64;
+
 /// The height of the line for steps that are drawn one by one.
 pub const TICK_LINE: u32 = 20;
 
@@ -105,7 +109,7 @@ pub const TICK_LINE: u32 = 20;
 pub fn draw_bar_legend<O: Out>(svg: &mut Svg<'_, O>, axis: u32, has_ticks: bool)
     requires { axis ≤ 30000 }
 {
-    let y = axis + 64;
+    let y = axis + BELOW;
     draw_entries(svg, &BARS, y);
     draw_arrow_entry(svg, y);
     if has_ticks {
@@ -127,7 +131,7 @@ fn draw_tick_entry<O: Out>(svg: &mut Svg<'_, O>, y: u32) {
 pub fn draw_area_legend<O: Out>(svg: &mut Svg<'_, O>, axis: u32)
     requires { axis ≤ 30000 }
 {
-    draw_entries(svg, &AREAS, axis + 64);
+    draw_entries(svg, &AREAS, axis + BELOW);
     svg.text("</svg>\n");
 }
 
