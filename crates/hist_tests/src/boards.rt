@@ -4,6 +4,7 @@ use crate::increment::{INCREMENT, LIMITS};
 use ia_image::{Program, load};
 use std::alloc::Global;
 use std::process::Abort;
+use tm_core::Limits;
 use tm_hist::{Board, BoardFault, History, MOST_STEPS, StepFault};
 use tm_model::Outcome;
 use tm_model::Outcome::{Aborted, Begun, Committed, Inside, Stopped};
