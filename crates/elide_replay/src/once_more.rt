@@ -5,7 +5,7 @@
 //! record is written before the first line is printed, and reasons stand above the state. Steps on one memory are
 //! `tm_hist`'s.
 
-ghost use Rattle.std.specs.Prelude.{◌≡◌, ◌⊎◌, ◌↔◌, ◌++◌, IfErr, IfOk, List, None, OnOk, false, max, true};
+ghost use Rattle.std.specs.Prelude.{◌≡◌, ◌⊎◌, ◌↔◌, ◌++◌, [], ℕ, IfErr, IfOk, List, None, OnOk, false, max, true};
 ghost use Rattle.text_out.specs.Writing.{Wrote};
 ghost use Rattle.tm_model.specs.declared.outcome.Outcome.{Outcome};
 ghost use Rattle.tm_model.specs.declared.outcome.Pick.{Pick};
@@ -24,6 +24,7 @@ ghost use Rattle.elide_setup.specs.Runs.{HasMade};
 ghost use Rattle.tm_schedule.specs.Schedule.{schedule_text};
 ghost use Rattle.elide_replay.specs.Told.{agreement_object, agreement_text};
 ghost use Rattle.elide_setup.specs.Shown.{IsWhole};
+ghost use Rattle.elide_why.specs.Refused.{IsNotRetold};
 ghost use Rattle.tm_hist.specs.Board.{IsNew};
 ghost use Rattle.tm_hist.specs.Replay.{Replays};
 
@@ -135,7 +136,6 @@ fn compare<P: Paths, O: Out + Drop, G: Progress>(
 {
     let alloc = rerun.alloc;
     let board = rerun.board;
-    let places = rerun.places;
     // By this it is known that the machine is the run of the history, which is run again below.
     board.is_run();
     let sums = rerun.options.machine.shows.as_slice();
@@ -144,15 +144,33 @@ fn compare<P: Paths, O: Out + Drop, G: Progress>(
     let serial = run_again(alloc, board)?;
     // Before the first line: a device that fails leaves a whole record.
     write_record(alloc, board, rerun.path, paths)?;
-    let mut page = Gathered::new(out);
-    if let Some(places) = places {
-        let options = rerun.options;
-        let file = options.machine.file;
-        tell_history(alloc, board, file, places, &mut page, progress)?;
-    }
+    let page = Gathered::new(out);
+    let mut page = tell_reasons(rerun, page, progress)?;
     let agreement = tell_asked(rerun, &serial, memory, &mut page)?;
     let out = page.finish()?;
     Ok((agreement, out))
+}
+
+// Prints the aborts of the board's history with their reasons, where they are asked for, and gives the page back.
+fn tell_reasons<O: Out + Drop, G: Progress>(
+    rerun: Rerun<'_>,
+    page: Gathered<O>,
+    progress: &mut G,
+) -> Result<Gathered<O>, Refusal>
+    requires { rerun.options.now.explains ≡ false → rerun.places ≡ None }
+    ensures told { IfOk result (λ given. (lines : List ℕ) × (rerun.entry.options.now.explains ≡ false → lines ≡ [])
+        × Wrote (⟦<Gathered<O> as Out>⟧.device page) (⟦<Gathered<O> as Out>⟧.device given) lines) }
+    ensures refused { IfErr result (IsNotRetold rerun.entry.board.now.limits) }
+{
+    let alloc = rerun.alloc;
+    let board = rerun.board;
+    let options = rerun.options;
+    let file = options.machine.file;
+    let places = rerun.places;
+    match places {
+        Some(places) => tell_history(alloc, board, file, places, page, progress),
+        None => Ok(page),
+    }
 }
 
 // Writes the schedule of a board's steps, where there is a path.

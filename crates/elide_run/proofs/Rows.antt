@@ -10,7 +10,7 @@ use Rattle.text_out.proofs.Writing.{wrote_then}
 use Rattle.text_out.specs.Writing.{Device, Wrote}
 use Rattle.tm_model.specs.declared.outcome.Outcome.{Outcome}
 use Rattle.tm_model.specs.declared.outcome.Pick.{Pick}
-use Rattle.elide_run.proofs.Steps.{same_device}
+use Rattle.elide_why.proofs.Steps.{same_device}
 
 pub record Rowed (before after : Machine) (first last : Device) (others : ℕ)
     (steps : List (Pick × Outcome)) : Type 0 where

@@ -9,10 +9,8 @@ use Rattle.tm_hist.specs.Lines.{outcome_line}
 use Rattle.tm_model.specs.declared.outcome.Outcome.{Outcome}
 use Rattle.tm_model.specs.declared.outcome.Pick.{Pick}
 use Rattle.elide_setup.specs.Walks.{Leads, PartsLead, steps_in}
+use Rattle.elide_why.proofs.Steps.{same_device}
 use Rattle.elide_run.specs.Printed.{outcome_lines, trace_text}
-
-pub same_device : (a b : Device) → b ≡ a → Wrote a b []
-same_device a b e = subst (λ (d : Device). Wrote a d []) (sym e) (wrote_none a)
 
 -- where the outcome of each is written
 pub record Traced (before after : Machine) (first last : Device) (steps : List (Pick × Outcome)) : Type 0 where
@@ -46,34 +44,6 @@ traced {Maker} {takes} steps a b h machine page each =
       leads = (h.0, h.1, all.0);
       wrote = subst (λ (l : List (Pick × Outcome)). Wrote (page a) (page b) (outcome_lines l)) h.1 all.1;
     }
-
--- where some text of each is
-pub record Told (before after : Machine) (first last : Device) (steps : List (Pick × Outcome)) : Type 0 where
-  pub leads : Leads AreMachineSteps before steps after
-  pub text : List ℕ
-  pub wrote : Wrote first last text
-
-parts_told : {Maker : Type 0} {takes : Maker → List (Pick × Outcome) → Maker → Type 0}
-    (parts : List (List (Pick × Outcome))) (a b : Maker) → PartsLead takes a parts b →
-    (machine : Maker → Machine) (page : Maker → Device)
-    (each : (a : Maker) (steps : List (Pick × Outcome)) (b : Maker) → takes a steps b
-    → AreMachineSteps (machine a) steps (machine b) × (text : List ℕ) × Wrote (page a) (page b) text) →
-    PartsLead AreMachineSteps (machine a) parts (machine b) × (text : List ℕ) × Wrote (page a) (page b) text
-parts_told {Maker} {takes} [] a b h machine page each = (ap machine h, [], same_device (page a) (page b) (ap page h))
-parts_told {Maker} {takes} (part ∷ parts) a b h machine page each =
-    let one = each a part h.0 h.1 in
-    let more = parts_told parts h.0 b h.2 machine page each in
-    ((machine h.0, one.0, more.0), one.1 ++ more.1, wrote_then one.2 more.2)
-
-pub told : {Maker : Type 0} {takes : Maker → List (Pick × Outcome) → Maker → Type 0} (steps : List (Pick × Outcome))
-    (a b : Maker) → Leads takes a steps b →
-    (machine : Maker → Machine) (page : Maker → Device)
-    (each : (a : Maker) (steps : List (Pick × Outcome)) (b : Maker) → takes a steps b
-    → AreMachineSteps (machine a) steps (machine b) × (text : List ℕ) × Wrote (page a) (page b) text) →
-    Told (machine a) (machine b) (page a) (page b) steps
-told {Maker} {takes} steps a b h machine page each =
-    let all = parts_told h.0 a b h.2 machine page each in
-    record { leads = (h.0, h.1, all.0); text = all.1; wrote = all.2 }
 
 -- the line of one step
 pub wrote_one : (a b : Device) (pick : Pick) (outcome : Outcome) → Wrote a b (outcome_line pick.core outcome)

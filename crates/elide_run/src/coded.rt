@@ -8,14 +8,14 @@ ghost use Rattle.std.specs.Prelude.{◌≡◌, ℕ, IfErr, IfOk, List};
 ghost use Rattle.text_out.specs.Writing.{Wrote};
 ghost use Rattle.elide_setup.specs.Refused.{IsNoCore};
 ghost use Rattle.elide_run.specs.Printed.{HasStepped};
-ghost use Rattle.elide_run.specs.Refused.{IsNoRun};
+ghost use Rattle.elide_run.specs.Refused.{IsNoRun, IsUnexplained};
 
-use crate::explained::{StepTeller, make_steps};
+use crate::explained::make_steps;
 use crate::opening::Job;
 use elide_device::{Gathered, Progress};
 use elide_program::Paths;
 use elide_setup::{Fault, Refusal, StepMaker};
-use elide_why::Teller;
+use elide_why::{StepTeller, Teller};
 use ia_image::Program;
 use std::alloc::{AllocError, Global};
 use symbols::Symbol;
@@ -77,6 +77,8 @@ struct CodeTeller<'a> {
 }
 
 impl StepTeller for CodeTeller<'_> {
+    ghost refuses = { IsUnexplained };
+
     fn tell_step<O: Out>(
         &mut self,
         machine: &mut Machine,
@@ -127,6 +129,8 @@ struct ReasonTeller<'a> {
 }
 
 impl StepTeller for ReasonTeller<'_> {
+    ghost refuses = { IsUnexplained };
+
     fn tell_step<O: Out>(
         &mut self,
         machine: &mut Machine,

@@ -24,6 +24,7 @@ ghost use Rattle.tm_hist.specs.Board.{IsNew, ShownBoard as Board};
 ghost use Rattle.elide_setup.specs.declared.machine.Setup.{Setup};
 ghost use Rattle.elide_setup.specs.declared.shown.ShownMemory.{ShownMemory};
 ghost use Rattle.tm_schedule.specs.Schedule.{schedule_text};
+ghost use Rattle.elide_why.specs.Refused.{IsNotRetold};
 ghost use Rattle.elide_threads.specs.Burst.{burst_said};
 ghost use Rattle.elide_threads.specs.Plans.{plan_said};
 ghost use Rattle.elide_threads.specs.Printed.{IsPrinted, IsTold, IsWorked, board_object};
@@ -257,18 +258,8 @@ fn tell_run<O: Out + Drop, G: Progress>(
         (λ given. IsTold options.now loaded.now.setup board.now (O.device out).contents (O.device given).contents) }
     ensures refused { IfErr result (IsNotTold loaded.now.setup board.now) }
 {
-    let places = loaded.places.as_ref();
-    let mut page = Gathered::new(out);
-    if let Some(places) = places {
-        tell_history(
-            alloc,
-            board,
-            options.machine.file,
-            places,
-            &mut page,
-            progress,
-        )?;
-    }
+    let page = Gathered::new(out);
+    let mut page = tell_reasons(alloc, options, loaded, board, page, progress)?;
     if options.counts {
         tell_counts(
             alloc,
@@ -282,6 +273,28 @@ fn tell_run<O: Out + Drop, G: Progress>(
         tell_asked(alloc, options, board, &loaded.setup, &mut page)?;
     }
     Ok(page.finish()?)
+}
+
+// Prints the aborts of a run with their reasons, where they are asked for, and gives the page back.
+fn tell_reasons<O: Out + Drop, G: Progress>(
+    alloc: Global,
+    options: &ThreadsOptions<'_>,
+    loaded: &Loaded<'_>,
+    board: &Board,
+    page: Gathered<O>,
+    progress: &mut G,
+) -> Result<Gathered<O>, Refusal>
+    requires { options.now.explains ≡ false → loaded.now.places ≡ None }
+    ensures told { IfOk result (λ given. (lines : List ℕ) × (options.now.explains ≡ false → lines ≡ [])
+        × Wrote (⟦<Gathered<O> as Out>⟧.device page) (⟦<Gathered<O> as Out>⟧.device given) lines) }
+    ensures refused { IfErr result (IsNotRetold board.now.limits) }
+{
+    let file = options.machine.file;
+    let places = loaded.places.as_ref();
+    match places {
+        Some(places) => tell_history(alloc, board, file, places, page, progress),
+        None => Ok(page),
+    }
 }
 
 // The places of the program, where the reasons of the aborts are asked for.

@@ -1,61 +1,61 @@
 //! The steps of a board that are told, behind its run: a board keeps steps and outcomes, but no reasons.
 //!
-//! [`tell_history`] makes them again from the first one, on a machine of its own, and prints each abort as its step is
-//! made. The board stays as it is. Whether its history ends as it did is not asked here: `elide_replay` does.
+//! [`tell_history`] has them made again from the first one, on a machine of its own, and prints each abort as its step
+//! is made. The board stays as it is. Whether its history ends as it did is not asked here: `elide_replay` does.
 
-ghost use Rattle.std.specs.Prelude.{ℕ, IfErr, IfOk, List};
+ghost use Rattle.std.specs.Prelude.{◌≡◌, ◌<◌, ℕ, IfErr, IfOk, List, length};
 ghost use Rattle.text_out.specs.Writing.{Wrote};
 ghost use Rattle.elide_why.specs.Refused.{IsNotRetold};
+ghost use Rattle.tm_core.specs.Theorem.{ShownMachine as Machine};
+ghost use Rattle.tm_model.specs.declared.outcome.Pick.{Pick};
 
 use crate::placed::NamedPlaces;
 use crate::teller::Teller;
-use elide_device::Progress;
-use elide_setup::{PORTION, Refusal, machine_like};
+use crate::telling::{StepTeller, Telling};
+use elide_device::{Gathered, Progress};
+use elide_setup::{Refusal, machine_like, walk_history};
 use std::alloc::Global;
 use text_out::Out;
 use tm_hist::Board;
 
-/// Makes the steps of a board again on a machine of their own, and prints the line of each abort with its reason.
-pub fn tell_history<O: Out, G: Progress>(
+/// Makes the steps of a board again on a machine of their own, and prints the line of each abort with its reason on
+/// this page, which it gives back.
+pub fn tell_history<O: Out + Drop, G: Progress>(
     alloc: Global,
     board: &Board,
     path: &str,
     places: &NamedPlaces,
-    out: &mut O,
+    page: Gathered<O>,
     progress: &mut G,
-) -> Result<(), Refusal>
-    ensures told { IfOk result (λ _. (text : List ℕ) × Wrote (O.device out.old) (O.device out.new) text) }
+) -> Result<Gathered<O>, Refusal>
+    ensures told { IfOk result (λ given. (text : List ℕ)
+        × Wrote (⟦<Gathered<O> as Out>⟧.device page) (⟦<Gathered<O> as Out>⟧.device given) text) }
     ensures refused { IfErr result (IsNotRetold board.now.limits) }
 {
-    let told = tell_steps(alloc, board, path, places, out, progress);
-    progress.end();
-    told
+    let machine = machine_like(alloc, board.program(), board.limits())?;
+    let teller = Teller::new(board.program(), path, &places.places, false);
+    let telling = Telling {
+        machine,
+        teller: teller.naming(places.names),
+        page,
+    };
+    tell_steps(board, telling, progress)
 }
 
-// Without the end of the progress.
-fn tell_steps<O: Out, G: Progress>(
-    alloc: Global,
+// Makes them on a machine with the cores of the board's program, so that no step is refused for its core.
+fn tell_steps<T: StepTeller + Drop, O: Out + Drop, G: Progress>(
     board: &Board,
-    path: &str,
-    places: &NamedPlaces,
-    out: &mut O,
+    telling: Telling<T, O>,
     progress: &mut G,
-) -> Result<(), Refusal>
-    ensures told { IfOk result (λ _. (text : List ℕ) × Wrote (O.device out.old) (O.device out.new) text) }
-    ensures refused { IfErr result (IsNotRetold board.now.limits) }
+) -> Result<Gathered<O>, Refusal>
+    requires { length telling.machine.views ≡ length board.now.program.entries }
+    ensures told { IfOk result (λ given. (text : List ℕ)
+        × Wrote (⟦<Gathered<O> as Out>⟧.device telling.page) (⟦<Gathered<O> as Out>⟧.device given) text) }
+    ensures refused { IfErr result (λ why. (machine : Machine) × (pick : Pick) × (pick.core < length machine.views)
+        × T.refuses machine pick why) }
 {
-    let mut machine = machine_like(alloc, board.program(), board.limits())?;
-    let teller = Teller::new(board.program(), path, &places.places, false);
-    let mut teller = teller.naming(places.names);
-    let steps = board.made();
-    for index in 0..steps {
-        if index % PORTION as u64 == 0 {
-            progress.tell(index, steps, "steps");
-        }
-        // The machine has the core of each step.
-        if let Some(pick) = board.pick_at(index as usize) {
-            teller.step(&mut machine, pick, out)?;
-        }
-    }
-    Ok(())
+    let mut telling = telling;
+    walk_history(board, &mut telling, progress)?;
+    let Telling { page, .. } = telling;
+    Ok(page)
 }

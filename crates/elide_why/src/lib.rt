@@ -17,6 +17,7 @@ mod parts;
 mod placed;
 mod subset;
 mod teller;
+mod telling;
 mod words;
 
 pub use history::tell_history;
@@ -26,4 +27,5 @@ pub use outside::Outside;
 pub use placed::NamedPlaces;
 pub use subset::write_stop;
 pub use teller::Teller;
+pub use telling::{StepTeller, Telling};
 pub use words::{PlaceText, Words};

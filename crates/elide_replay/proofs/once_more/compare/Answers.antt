@@ -1,6 +1,5 @@
-use Rattle.std.proofs.Common.{◌≡◌, ℕ, false, List, [], ◌++◌, Option, refl, sym, ap, ◌∙◌, subst}
+use Rattle.std.proofs.Common.{◌≡◌, ℕ, List, ◌++◌, Option, ap, ◌∙◌, subst}
 use Rattle.std.specs.Io.KnownBytes.{Appends}
-use Rattle.text_out.proofs.Writing.{appends_none}
 use Rattle.text_out.specs.Writing.{Device}
 use Rattle.elide_device.specs.Gathering.{told}
 use Rattle.elide_setup.specs.Shown.{shown_text}
@@ -12,7 +11,6 @@ use Rattle.elide_replay.specs.declared.agreement.Agreement.TheVariants.{Agrees}
 use Rattle.elide_why.proofs.Passing.{both_passed_on}
 use Rattle.std.proofs.lemmas.Result.{err_from_is_err_and}
 use Rattle.elide_replay.proofs.Refusing.{of_telling}
-use Rattle.elide_replay.proofs.once_more.compare.Goals.{in-Some+in_ok-tell_history, in_default}
 use Rattle.elide_replay.proofs.once_more.compare.Goals as goal
 
 pub returns-clause-told : goal.returns-clause-told
@@ -22,25 +20,8 @@ returns-clause-told g c =
       failures = m.failures;
     } in
     let begun = c.new-page.result in
-    let page = c.match-places.page in
-    let above :
-    (lines : List ℕ) × (c.args.rerun.options.now.explains ≡ false → lines ≡ [])
-    × Appends (held begun).contents (held page).contents lines =
-    elim c.match-places.branch [
-      | in-Some+in_ok-tell_history w ↦
-          let more = w.in_ok-tell_history.ensures.told in (
-            more.0,
-            (λ e. let none = c.requires e in let some = w.in-Some.is in cc),
-            subst (λ (m : Gathered g.row.O.Denot). Appends (held begun).contents (held m).contents more.0)
-                (sym w.page-is) more.1.bytes,
-          )
-      | in_default w ↦ (
-        [],
-        (λ e. refl),
-        subst (λ (m : Gathered g.row.O.Denot). Appends (held begun).contents (held m).contents []) (sym w.page-is)
-            (appends_none (held begun).contents),
-      )
-    ] in
+    let page = c.in_ok-page.page in
+    let above = c.in_ok-page.ensures.told in
     let memory = c.in_ok-memory.memory in
     let is = c.in_ok-memory.ensures in
     let agrees : c.in_ok-agreement.agreement ≡ Agrees =
@@ -52,7 +33,7 @@ returns-clause-told g c =
     → Appends (g.O.Out.device c.args.out).contents last (above.0 ++ text) =
     λ text told. both_passed_on (g.O.Out.device c.args.out).contents (held begun).contents (held page).contents page-end
     last above.0 text
-    c.new-page.ensures.kept above.2 told c.in_ok-out.ensures.kept in
+    c.new-page.ensures.kept above.2.bytes told c.in_ok-out.ensures.kept in
     let machine = c.args.rerun.board.now.machine in
     record {
       law = c.is_run.ensures;

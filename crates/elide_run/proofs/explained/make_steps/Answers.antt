@@ -3,7 +3,7 @@ use Rattle.std.proofs.lemmas.Result.{err_from_is_err_and}
 use Rattle.elide_setup.specs.Rounds.{IsOut}
 use Rattle.elide_setup.proofs.Runs.{run_of_all}
 use Rattle.elide_device.specs.Gathering.{told as told_contents}
-use Rattle.elide_run.proofs.Steps.{told}
+use Rattle.elide_why.proofs.Steps.{told}
 use Rattle.elide_run.proofs.Refusing.{of_walk}
 use Rattle.elide_run.specs.Refused.{unready}
 use Rattle.elide_run.proofs.explained.make_steps.Goals as goal
@@ -52,7 +52,7 @@ returns-in_err-walk_recorded-clause-refused g c =
       failures = m.page.failures;
     })
     (λ _ _ _ h. h)).leads)
-    (λ after pick h. h) c.in_err-walk_recorded.ensures.refused)
+    (λ after pick h. c.requires after.machine pick _ h) c.in_err-walk_recorded.ensures.refused)
 
 pub returns-in_err-machine-clause-refused : goal.returns-in_err-machine-clause-refused
 returns-in_err-machine-clause-refused g c =

@@ -1,7 +1,5 @@
-use Rattle.std.proofs.Common.{◌≡◌, ℕ, false, List, [], ◌++◌, Some, None, refl, sym, ap, ◌∙◌, subst}
+use Rattle.std.proofs.Common.{ℕ, List, ◌++◌, subst, sym}
 use Rattle.std.specs.Io.KnownBytes.{Appends}
-use Rattle.std.specs.Option.{option_copied}
-use Rattle.text_out.proofs.Writing.{appends_none}
 use Rattle.text_out.specs.Writing.{Device}
 use Rattle.elide_device.specs.Gathering.{told}
 use Rattle.elide_setup.specs.Shown.{shown_text}
@@ -10,7 +8,6 @@ use Rattle.elide_why.proofs.Passing.{both_passed_on}
 use Rattle.std.proofs.lemmas.Result.{err_from_is_err_and}
 use Rattle.elide_threads.proofs.Refusing.{of_counts}
 use Rattle.elide_threads.specs.Printed.{board_object}
-use Rattle.elide_threads.proofs.workers.tell_run.Goals.{in-Some+in_ok-tell_history, in_default}
 use Rattle.elide_threads.proofs.workers.tell_run.Goals.{then-options+in_ok-tell_counts, else-options+in_ok-tell_asked}
 use Rattle.elide_threads.proofs.workers.tell_run.Goals as goal
 
@@ -21,34 +18,14 @@ returns-clause-told g c =
       failures = m.failures;
     } in
     let begun = c.new-page.result in
-    let page = c.match-places.page in
+    let page = c.in_ok-page.page in
     let last = c.if-options.page in
-    let above :
-    (lines : List ℕ) × (c.args.options.now.explains ≡ false → lines ≡ [])
-    × Appends (held begun).contents (held page).contents lines =
-    elim c.match-places.branch [
-      | in-Some+in_ok-tell_history w ↦
-          let more = w.in_ok-tell_history.ensures.told in (
-            more.0,
-            (λ e.
-                let clash : Some w.in-Some.places.now ≡ None =
-                sym (ap option_copied w.in-Some.is) ∙ c.as_ref-places.ensures.value ∙ c.requires e in
-                cc),
-            subst (λ (m : Gathered g.row.O.Denot). Appends (held begun).contents (held m).contents more.0)
-                (sym w.page-is) more.1.bytes,
-          )
-      | in_default w ↦ (
-        [],
-        (λ e. refl),
-        subst (λ (m : Gathered g.row.O.Denot). Appends (held begun).contents (held m).contents []) (sym w.page-is)
-            (appends_none (held begun).contents),
-      )
-    ] in
+    let above = c.in_ok-page.ensures.told in
     let passed : (text : List ℕ) → Appends (held page).contents (held last).contents text →
     Appends (g.O.Out.device c.args.out).contents (g.O.Out.device c.in_ok-finish.field-0).contents (above.0 ++ text) =
     λ text told. both_passed_on (g.O.Out.device c.args.out).contents (held begun).contents (held page).contents
     (held last).contents
-    (g.O.Out.device c.in_ok-finish.field-0).contents above.0 text c.new-page.ensures.kept above.2 told
+    (g.O.Out.device c.in_ok-finish.field-0).contents above.0 text c.new-page.ensures.kept above.2.bytes told
     c.in_ok-finish.ensures.kept in
     record {
       lines = above.0;
