@@ -1,8 +1,9 @@
 -- When a machine and a serial run of its steps show the same.
 use Rattle.std.specs.Prelude.{◌≡◌, ℕ, ◌<◌, length}
-use Rattle.tm_core.specs.Theorem.{ShownMachine as Machine, view_at}
+use Rattle.tm_core.specs.Theorem.{ShownMachine as Machine, pending_at, view_at}
 use Rattle.tm_hist.specs.Board.{stop_shown}
-use Rattle.tm_hist.specs.Replay.{cores_of}
+use Rattle.tm_hist.specs.Queues.{queue_at}
+use Rattle.tm_hist.specs.Replay.{cores_of, pending_of}
 use Rattle.tm_hist.specs.Serial.{base_of, core_at, stop_of}
 use Rattle.tm_hist.specs.declared.replay.Serial.{Serial}
 
@@ -19,10 +20,17 @@ SameStop machine serial number =
     (number < length (cores_of serial))
     × (stop_of (core_at (cores_of serial) number) ≡ stop_shown (view_at machine number).mode)
 
-abbrev pub SameCore : Machine → Serial → ℕ → Type 0
-SameCore machine serial number = SameRegs machine serial number × SameStop machine serial number
+-- and with its pending stores
+abbrev pub SamePending : Machine → Serial → ℕ → Type 0
+SamePending machine serial number =
+    (number < length (cores_of serial))
+    × (queue_at (pending_of serial) number ≡ pending_at machine number)
 
--- both of each core, and the serial run has no other
+abbrev pub SameCore : Machine → Serial → ℕ → Type 0
+SameCore machine serial number =
+    SameRegs machine serial number × SameStop machine serial number × SamePending machine serial number
+
+-- all of each core, and the serial run has no other
 abbrev pub SameCores : Machine → Serial → Type 0
 SameCores machine serial =
     (length (cores_of serial) ≡ length machine.views)

@@ -1,14 +1,14 @@
 //! Whether a board's machine and a serial run ended alike.
 //!
-//! [`agreement_of`] compares memory, then that there are as many cores, then of each its registers and its stop. It
-//! takes no agreement for granted: that a board's own history always agrees is proved of `tm_hist`. Nothing is printed,
-//! and no step is made.
+//! [`agreement_of`] compares memory, then that there are as many cores, then of each its registers, its stop and that
+//! no store is pending. It takes no agreement for granted: that a board's own history always agrees is proved of
+//! `tm_hist`. Nothing is printed, and no step is made.
 
 ghost use Rattle.std.specs.Prelude.{◌≡◌, ◌↔◌, ◌<◌, IsTrue, length};
 ghost use Rattle.tm_hist.specs.Board.{stop_shown};
 ghost use Rattle.tm_hist.specs.Replay.{Replays, memory_of};
 ghost use Rattle.tm_core.specs.Theorem.{view_at};
-ghost use Rattle.elide_replay.specs.Alike.{SameCore, SameCores, SameRegs, SameStop};
+ghost use Rattle.elide_replay.specs.Alike.{SameCore, SameCores, SamePending, SameRegs, SameStop};
 ghost use Rattle.elide_replay.specs.Told.{agreement_status, is_agreement};
 
 use tm_core::Machine;
@@ -19,7 +19,7 @@ use tm_rule::Stop;
 /// Whether a schedule on a board and a history on one memory ended alike.
 #[derive(Clone, Copy, PartialEq, Eq, Debug)]
 pub enum Agreement {
-    /// Memory, registers and stops are the same.
+    /// Memory, registers, stops and what is pending are the same.
     Agrees,
     /// Some of them are not.
     Differs,
@@ -48,8 +48,8 @@ impl Agreement {
 }
 
 /// Compares a board's machine with a serial run, which need not be that of the board's history. They agree exactly
-/// where memory is the same, both have as many cores, and of each core the registers (those before an open transaction)
-/// and the stop are the same. Takes no memory.
+/// where memory is the same, both have as many cores, and of each core the registers (those before an open
+/// transaction), the stop and the pending stores are the same. Takes no memory.
 pub fn agreement_of(board: &Board, serial: &Serial) -> Agreement
     ensures { result ≡ Agreement.Agrees ↔ Replays board.now serial.now }
 {
@@ -93,7 +93,9 @@ fn is_same_core(machine: &Machine, serial: &Serial, core: u8) -> bool
     requires { core < length machine.now.views }
     ensures { IsTrue result ↔ SameCore machine.now serial.now core }
 {
-    has_regs_of(machine, serial, core) && has_stop_of(machine, serial, core)
+    has_regs_of(machine, serial, core)
+        && has_stop_of(machine, serial, core)
+        && has_pending_of(machine, serial, core)
 }
 
 fn has_regs_of(machine: &Machine, serial: &Serial, core: u8) -> bool
@@ -112,6 +114,18 @@ fn has_stop_of(machine: &Machine, serial: &Serial, core: u8) -> bool
 {
     match serial.stop(core) {
         Ok(stop) => stop == stop_of(machine, core),
+        Err(_) => false,
+    }
+}
+
+// Of a machine's core no store is pending.
+fn has_pending_of(machine: &Machine, serial: &Serial, core: u8) -> bool
+    requires { core < length machine.now.views }
+    ensures { IsTrue result ↔ SamePending machine.now serial.now core }
+{
+    machine.nothing_pending();
+    match serial.pending(core) {
+        Ok(stores) => stores.is_empty(),
         Err(_) => false,
     }
 }
