@@ -37,6 +37,8 @@ pub struct Counting {
     counts: RunCounts,
     conflicts: Conflicts,
     bytes: CoreBytes,
+    // Of the step that is asked for.
+    hits: Hits,
 }
 
 /// A schedule, and where it is written, where there is a path.
@@ -60,9 +62,15 @@ impl StepMaker for Counting {
             return Err(Refusal::Fault(Fault::Run(RunFault::NoSuchCore)));
         };
         let asked = Asked::before(&self.machine, core, preview.reason);
-        let hits = Hits::before(&self.machine, &preview);
+        self.hits.ask(&self.machine, &preview);
         let outcome = self.machine.make_step(pick)?;
-        count_hits(&mut self.conflicts, &mut self.bytes, core, &hits, outcome)?;
+        count_hits(
+            &mut self.conflicts,
+            &mut self.bytes,
+            core,
+            &self.hits,
+            outcome,
+        )?;
         match self.counts.note(asked.step(core, outcome)) {
             Ok(()) => Ok(outcome),
             Err(_) => Err(no_memory()),
@@ -85,6 +93,7 @@ impl Counting {
             counts: RunCounts::new(alloc),
             conflicts: Conflicts::new(alloc),
             bytes,
+            hits: Hits::none(),
         })
     }
 

@@ -1,8 +1,8 @@
 //! The transactions that steps hit, and the bytes on which they meet.
 //!
-//! [`Hits::before`] comes before the step, as a transaction that is hit is condemned behind it; whether the step was
-//! made at all is known by its outcome. [`CoreBytes`] is told each step, and asked before that whether two cores meet
-//! on a byte. Which steps hit is the machine's to say; counts are `tm_stats`'s.
+//! [`Hits::ask`] comes before the step, as a transaction that is hit is condemned behind it; whether the step was made
+//! at all is known by its outcome. The room for hits is made once a run. [`CoreBytes`] is told each step, and asked
+//! before that whether two cores meet on a byte. Which steps hit is the machine's to say; counts are `tm_stats`'s.
 
 ghost use Rattle.std.specs.Prelude.{◌≡◌};
 ghost use Rattle.tm_core.specs.Previewed.{IsPreview};
@@ -27,23 +27,32 @@ pub struct Hits {
 }
 
 impl Hits {
-    /// Asks a machine before the previewed step: of the hits where it may hit anybody.
-    pub fn before(machine: &Machine, preview: &Preview) -> Hits
+    /// Before the first step is asked for.
+    pub fn none() -> Hits {
+        Hits {
+            conflicts: ArrayVec::new(),
+            reach: Reach {
+                load: None,
+                store: None,
+            },
+        }
+    }
+
+    /// Asks a machine before the previewed step, in the place of the step before: of the hits where it may hit anybody.
+    pub fn ask(&mut self, machine: &Machine, preview: &Preview)
         requires { IsPreview machine.now preview.now }
     {
-        let mut conflicts = ArrayVec::new();
-        if machine.may_hit(preview) {
-            for victim in 0..machine.cores() {
-                if let Some(hit) = machine.hit_by(preview, victim).unwrap() {
-                    let conflict = conflict_of(machine, preview.eip, victim, hit.line, hit.kind);
-                    // There is room for one of each core.
-                    let _ = conflicts.try_push((victim, conflict));
-                }
-            }
+        self.conflicts.clear();
+        self.reach = preview.reach;
+        if !machine.may_hit(preview) {
+            return;
         }
-        Hits {
-            conflicts,
-            reach: preview.reach,
+        for victim in 0..machine.cores() {
+            if let Some(hit) = machine.hit_by(preview, victim).unwrap() {
+                let conflict = conflict_of(machine, preview.eip, victim, hit.line, hit.kind);
+                // There is room for one of each core.
+                let _ = self.conflicts.try_push((victim, conflict));
+            }
         }
     }
 
