@@ -1,8 +1,8 @@
 //! One command, by the crate that carries it out.
 //!
-//! [`Job::obey`] chooses among them. Each stands in a function of its own that is not inlined: a stack that is small has
-//! to hold what one command keeps there, and not what all of them do. How it ended is made an answer by `answer`, and
-//! told by `dispatch`.
+//! [`Job::obey`] chooses among them. Each stands in a function of its own that is not inlined: a stack that is small
+//! has to hold what one command keeps there, and not what all of them do. How it ended is made an answer by `answer`,
+//! and told by `dispatch`.
 
 use crate::answer::{Answer, done, ran, replayed, searched, sought};
 use crate::look::Look;

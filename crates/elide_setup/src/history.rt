@@ -1,7 +1,8 @@
 //! Walks over a board's history: [`walk_history`], by whatever [`StepMaker`] makes the steps again.
 //!
 //! They go one by one, from the first, since who makes them again asks something of each. The board stays as it is.
-//! What a step prints or counts is its maker's own; a machine with the cores of the board's program has the core of each.
+//! What a step prints or counts is its maker's own; a machine with the cores of the board's program has the core of
+//! each.
 
 ghost use Rattle.std.specs.Prelude.{◌≡◌, IfErr, IfOk, List};
 ghost use Rattle.tm_model.specs.Runs.{picks_of};
