@@ -1,5 +1,5 @@
 -- What the next step loads and stores (its reach), as the model says of a core in a transaction and of one in none.
-use Rattle.std.proofs.Common.{◌≡◌, ℕ, ◌<◌, Bool, true, false, cond, eqb, List, [], ◌++◌, length, map, Option, Some}
+use Rattle.std.proofs.Common.{◌≡◌, ℕ, Bool, true, false, cond, eqb, List, [], ◌++◌, length, map, Option, Some}
 use Rattle.std.proofs.Common.{None, refl, sym, ap, ◌∙◌, subst}
 use Rattle.std.proofs.lemmas.Option.{option_and_then_some, same_Some}
 use Rattle.std.proofs.lemmas.List.{map-append}
@@ -13,23 +13,18 @@ use Rattle.tm_model.specs.Isolated.{Body, instruction_after, isolated_body, read
 use Rattle.tm_model.specs.Owed.{abort_at, have_room, owed_after, owed_inside, owed_outcome, owed_outside}
 use Rattle.tm_model.specs.Setting.{Setting, outside_at}
 use Rattle.tm_model.specs.Shown.{View, view_between, view_inside, view_midway, view_of, view_of_body, view_outside}
-use Rattle.tm_model.specs.State.{Closed, Core, Halted, Midway, Opened, State, seen_by}
-use Rattle.tm_core.specs.declared.cpu.Cpu.{Cpu}
-use Rattle.tm_core.specs.ExplainedViews.{Reached, reach_inside, reach_outside, reach_shown, reach_told}
-use Rattle.tm_core.specs.Machine.{shown_by}
-use Rattle.tm_core.specs.Representation.{cpu_at, cpu_views, parts_setting}
+use Rattle.tm_model.specs.State.{Closed, Core, Halted, Midway, Opened}
+use Rattle.tm_core.specs.ExplainedViews.{Reached, reach_inside, reach_outside, reach_shown, reach_told, value_seen}
+use Rattle.tm_core.specs.Representation.{parts_setting, setting_with}
 use Rattle.tm_core.specs.StepRefinement.{add_all, seen}
-use Rattle.tm_core.specs.Theorem.{StandsFor}
 use Rattle.tm_core.specs.Types.{Aborted, AbortedBy, Access, AtStop, Begins, Begun, Capacity, Committed, Condemned}
-use Rattle.tm_core.specs.Types.{Drained, Ends, Fails}
+use Rattle.tm_core.specs.Types.{CoreState, Drained, Ends, Fails, Mid}
 use Rattle.tm_core.specs.Types.{Goes, GoesOn, Idle, Inside, InsideResult, Loaded, Nests, Open, Outcome, OutsideResult}
-use Rattle.tm_core.specs.Types.{Plain, Read, Regs, Running, Stopped, Stops, Write}
+use Rattle.tm_core.specs.Types.{Plain, Regs, Running, Stopped, Stops}
 use Rattle.tm_core.proofs.BufferLemmas.{add_all-lines, map_seen}
-use Rattle.tm_core.proofs.MachineLemmas.{length-views_list, seen_plain, view_at_is}
 use Rattle.tm_core.proofs.OtherCores.{view_inside_is}
 use Rattle.tm_core.proofs.Sound.{InRange, Sound}
 use Rattle.tm_core.proofs.SteppingCore.{isolated_body-range}
-use Rattle.tm_core.proofs.Table.{sound}
 
 abbrev nothing_reached : Reached
 nothing_reached = ([], [])
@@ -195,39 +190,33 @@ reach_by_load code base size a m v depth access loaded o is value e =
     (sym value)
     ∙ ap (reach_inside k v.reads v.writes depth (loaded_addresses access)) (sym e)
 
--- of equal parts
-pub same_reach : (a : Content) (code code1 : List ℕ) (base : ℕ) (m m1 : List ℕ) (cpus cpus1 : List Cpu) (c : ℕ)
-    → code1 ≡ code → m1 ≡ m → cpus1 ≡ cpus →
-    reach_shown (parts_setting code1 base (length m1) a) m1 (cpu_views a cpus1 c) (cpu_at cpus1 c).state
-    ≡ reach_shown (parts_setting code base (length m) a) m (cpu_views a cpus c) (cpu_at cpus c).state
-same_reach a code code1 base m m1 cpus cpus1 c e f g =
-    λ i. reach_shown (parts_setting (e i) base (length (f i)) a) (f i) (cpu_views a (g i) c) (cpu_at (g i) c).state
+-- what is told of a core that shows this is what the model says
+pub reach_as_told : (k : Setting) → Sound k → (m : List ℕ) → length m ≡ k.size → (x : Core) (dx : Option ℕ) (v : View)
+    → view_of k m x dx ≡ Some v → (told : Reach) → reach_told told ≡ reach_shown k m v v.mode
+    → IsReachTold k m x dx told
+reach_as_told k sound m size x dx v shows told e =
+    let same : reach_told told ≡ reach_by k m x (owed_outcome k m x dx) =
+    e ∙ sym (reach_is k sound m size x dx v shows) in record {
+      loads = ap (λ (p : Reached). p.0) same;
+      stores = ap (λ (p : Reached). p.1) same;
+    }
 
-module _ (a : Content) (code : List ℕ) (base : ℕ) (m : List ℕ) (cpus : List Cpu) (st : State) (d : ℕ → Option ℕ)
-    (stands : StandsFor (shown_by a code base m cpus) st d) where
-  abbrev setting : Setting
-  setting = parts_setting code base (length m) a
+-- whatever the size of the store buffers
+inside_reach : (code : List ℕ) (base size : ℕ) (a : Content) (most : ℕ) (reads writes : Lines) (depth : ℕ)
+    (loads : List ℕ) (o : InsideResult) → reach_inside (setting_with code base size a most) reads writes depth loads o
+    ≡ reach_inside (parts_setting code base size a) reads writes depth loads o
+inside_reach code base size a most reads writes depth loads (Fails cause) = refl
+inside_reach code base size a most reads writes depth loads (GoesOn t w) = refl
+inside_reach code base size a most reads writes depth loads (Nests t) = refl
+inside_reach code base size a most reads writes depth loads (Ends t) = refl
 
-  seen_is : (c : ℕ) → c < length cpus → m ≡ seen_by st c
-  seen_is = seen_plain a code base m cpus st d stands
-
-  shows : (c : ℕ) → c < length cpus → view_of setting (seen_by st c) (st.cores c) (d c) ≡ Some (cpu_views a cpus c)
-  shows c below =
-      stands.each c (subst (λ n. c < n) (sym (length-views_list a 0 cpus)) below)
-      ∙ ap Some (view_at_is a code base m cpus c below)
-
-  -- what is told is what the model says
-  pub machine_reach : (c : ℕ) → c < length cpus
-      → (told : Reach) → reach_told told ≡ reach_shown setting m (cpu_views a cpus c) (cpu_at cpus c).state
-      → IsReachTold setting (seen_by st c) (st.cores c) (d c) told
-  machine_reach c below told e =
-      let same :
-      reach_told told
-      ≡ reach_by setting (seen_by st c) (st.cores c) (owed_outcome setting (seen_by st c) (st.cores c) (d c)) =
-      e
-      ∙ ap (λ n. reach_shown setting n (cpu_views a cpus c) (cpu_at cpus c).state) (seen_is c below)
-      ∙ sym (reach_is setting (sound code base (length m) (a.fixed.room Read) (a.fixed.room Write) 0) (seen_by st c)
-      (ap length (sym (seen_is c below))) (st.cores c) (d c) (cpu_views a cpus c) (shows c below)) in record {
-        loads = ap (λ (p : Reached). p.0) same;
-        stores = ap (λ (p : Reached). p.1) same;
-      }
+pub reach_same : (code : List ℕ) (base size : ℕ) (a : Content) (most : ℕ) (m : List ℕ) (v : View) (mode : CoreState)
+    → reach_shown (setting_with code base size a most) m v mode ≡ reach_shown (parts_setting code base size a) m v mode
+reach_same code base size a most m v Running = refl
+reach_same code base size a most m v Mid = refl
+reach_same code base size a most m v (Open depth) =
+    let k : Setting = parts_setting code base size a in
+    inside_reach code base size a most v.reads v.writes depth (k.load_of v.regs)
+    (k.inside v.regs depth (value_seen k m v))
+reach_same code base size a most m v (Condemned depth) = refl
+reach_same code base size a most m v (AtStop stop) = refl

@@ -109,7 +109,7 @@ like_midway s value (Goes t w) v e = ap (λ (u : View). core_like u u.mode) (sym
 like_midway s value (Begins t) v e = cc
 like_midway s value (Stops x) v e = cc
 
-is_like : (k : Setting) (m : List ℕ) (x : Core) (dx : Option ℕ) (v : View) → view_of k m x dx ≡ Some v
+pub is_like : (k : Setting) (m : List ℕ) (x : Core) (dx : Option ℕ) (v : View) → view_of k m x dx ≡ Some v
     → IsLike x (core_like v v.mode)
 is_like k m (Closed s) None v e =
     inl (ap (λ (u : View). core_like u u.mode) (sym (same_Some (view_outside Running s) v e)))
@@ -125,7 +125,7 @@ is_like k m (Opened s n) None v e =
     option_and_then_some (view_inside s) (isolated_body k s m n) v e (λ b is e2.
     inr (s, n, refl, ap (λ (u : View). core_like u u.mode) (sym (view_inside_is s b v e2).1)))
 
-same_wait : (k : Setting) (m : List ℕ) (p : Pending) (x y : Core) (o : Outcome) → IsLike x y
+pub same_wait : (k : Setting) (m : List ℕ) (p : Pending) (x y : Core) (o : Outcome) → IsLike x y
     → must_wait k m p y o ≡ must_wait k m p x o
 same_wait k m p x y o like =
     ⊎_elim (λ (e : y ≡ x). ap (λ z. must_wait k m p z o) e)
@@ -231,7 +231,7 @@ length-settled m [] own None ws = length-memory_after m ws
 length-settled m (oldest ∷ younger) own None ws = refl
 
 -- what touches it is that its loads, and what it wrote in memory
-touch_settled : (store : Option Store) (ws : Stores) (loads : List ℕ) (touched : Touched)
+pub touch_settled : (store : Option Store) (ws : Stores) (loads : List ℕ) (touched : Touched)
     → ((v : View) → lines_hit v.reads v.writes touched ≡ hits v.reads v.writes loads (stored_addresses ws)) → (v : View)
     → lines_hit v.reads v.writes (touched_now store loads touched)
     ≡ hits v.reads v.writes loads (addresses_at_once store (stored_addresses ws))
@@ -267,7 +267,7 @@ abbrev pub IsRight : Option Event → Setting → ℕ → State → Doomed → �
 IsRight event k cores a d c views result =
     Right event k cores a d c result.outcome result.memory (views_then views c result) (pending_then a.pending c result)
 
-no_loads : (k : Setting) (m : List ℕ) (x : Core) → addresses_loaded_by k m x Drained ≡ []
+pub no_loads : (k : Setting) (m : List ℕ) (x : Core) → addresses_loaded_by k m x Drained ≡ []
 no_loads k m (Closed s) = refl
 no_loads k m (Midway s value) = refl
 no_loads k m (Halted s x) = refl
@@ -343,7 +343,7 @@ module _ (event : Option Event) (k : Setting) (sound : Sound k) (cores : ℕ) (a
   pub told : is_drained r.outcome ≡ false
   told = ap is_drained mine.owes ∙ alone_drains event k seen x (d c)
 
-  owed_is : DrainsNone event p →
+  pub owed_is : DrainsNone event p →
       owed_under event k a.memory p x (d c) ≡ (if must_wait k seen p x r.outcome then Drained else r.outcome)
   owed_is none =
       owed_alone event k a.memory p x (d c) none
@@ -396,7 +396,7 @@ module _ (event : Option Event) (k : Setting) (sound : Sound k) (cores : ℕ) (a
       ∙ ap (λ n. (settled a.memory p store (n, core_like (views c) (views c).mode)).1.0) mine.memory
       ∙ pending_settled a.memory p store (memory_after seen mine.stores) (core_like (views c) (views c).mode) mine.next
 
-  touched_is : result.touched ≡ touched_now store mine.loads r.touched
+  pub touched_is : result.touched ≡ touched_now store mine.loads r.touched
   touched_is =
       same_touched k seen x (core_like (views c) (views c).mode) r.outcome r.touched like
       ∙ ap (λ ls. touched_now store ls r.touched) (sym mine.loaded)

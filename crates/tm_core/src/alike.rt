@@ -2,7 +2,8 @@
 //!
 //! What the core is doing and its registers before a transaction are compared first; of the rest only what that
 //! makes it show: the kept value between two steps, and in a transaction the registers now, the bytes and the
-//! lines. Memory and the other cores are not compared here.
+//! lines. Memory, the other cores and the stores that are pending are not compared here: [`Machine::pending`] tells
+//! the last.
 
 ghost use Rattle.std.specs.Prelude.{◌≡◌, ◌↔◌, ◌<◌, IsTrue, length};
 ghost use Rattle.tm_model.specs.Setting.{Setting};
@@ -12,6 +13,7 @@ ghost use Rattle.tm_core.specs.Theorem.{view_at};
 
 use crate::cpu::Cpu;
 use crate::machine::Machine;
+use crate::unbuffered::Unbuffered;
 use tm_model::CoreState;
 use tm_sets::Sets;
 
@@ -49,8 +51,19 @@ fn is_alike<S: Sets>(cpu: &Cpu, sets: &S, twin: &Cpu, twin_sets: &S, core: u8) -
 impl<S: Sets> Machine<S> {
     /// Whether another machine shows a core as this one does: what it is doing, its registers before its transaction
     /// and now, the value between the two steps of an instruction, and the bytes and the lines of its transaction.
-    /// Takes no memory; the time is that of the transaction's lines.
+    /// Its stores that are pending are not compared. Takes no memory; the time is that of the transaction's lines.
     pub fn is_core_alike(&self, other: &Machine<S>, core: u8) -> bool
+        requires here { core < length self.now.views }
+        requires there { core < length other.now.views }
+        ensures { IsTrue result ↔ (view_at self.now core ≡ view_at other.now core) }
+    {
+        self.unbuffered.is_core_alike(&other.unbuffered, core)
+    }
+}
+
+impl<S: Sets> Unbuffered<S> {
+    /// [`Machine::is_core_alike`] of machines without store buffers.
+    pub(crate) fn is_core_alike(&self, other: &Unbuffered<S>, core: u8) -> bool
         requires here { core < length self.now.views }
         requires there { core < length other.now.views }
         ensures { IsTrue result ↔ (view_at self.now core ≡ view_at other.now core) }

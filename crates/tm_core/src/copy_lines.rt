@@ -16,6 +16,8 @@ ghost use Rattle.tm_core.specs.Types.{Write};
 use crate::cpu::Cpu;
 use crate::machine::Machine;
 use crate::reopen_lines::reopen_each;
+use crate::store_rows::copy_rows;
+use crate::unbuffered::Unbuffered;
 use tm_buffer::Buffer;
 use tm_sets::Sets;
 
@@ -103,10 +105,32 @@ fn copy_cores<S: Sets>(cpus: &mut [Cpu], sets: &mut S, twins: &[Cpu], twin_sets:
 
 impl<S: Sets> Machine<S> {
     /// Becomes as another machine of the same program is: its memory, where the two may differ on some lines of 64
-    /// bytes, and its cores with their transactions. False, and nothing changed, where the two were made over sets of
-    /// other sizes. Takes no memory; the time is that of these lines and of the lines of the cores' sets, whatever the
-    /// size of memory.
+    /// bytes, and its cores with their transactions and their stores that are pending. False, and nothing changed,
+    /// where the two were made over sets of other sizes. Takes no memory; the time is that of these lines and of the
+    /// lines of the cores' sets, whatever the size of memory.
     pub fn copy_lines(&mut self, other: &Machine<S>, lines: &[u32]) -> bool
+        requires same { SameMachine self.old other.now }
+        requires elsewhere { IsSameElsewhere lines.now self.old.memory other.now.memory }
+        ensures same { SameMachine self.old self.new }
+        ensures memory { IsTrue result → self.new.memory ≡ other.now.memory }
+        ensures views { IsTrue result → self.new.views ≡ other.now.views }
+        ensures pending { IsTrue result → self.new.pending ≡ other.now.pending }
+        ensures stands { IsTrue result → (state : State) (doomed : Doomed) → StandsFor other.now state doomed →
+            StandsFor self.new state doomed }
+        ensures none { result ≡ false → self.new ≡ self.old }
+    {
+        if !self.unbuffered.copy_lines(&other.unbuffered, lines) {
+            return false;
+        }
+        self.unbuffered.nothing_pending();
+        copy_rows(&mut self.pending, other.pending.as_slice());
+        true
+    }
+}
+
+impl<S: Sets> Unbuffered<S> {
+    /// [`Machine::copy_lines`] of a machine without store buffers.
+    pub(crate) fn copy_lines(&mut self, other: &Unbuffered<S>, lines: &[u32]) -> bool
         requires same { SameMachine self.old other.now }
         requires elsewhere { IsSameElsewhere lines.now self.old.memory other.now.memory }
         ensures same { SameMachine self.old self.new }

@@ -8,6 +8,7 @@ ghost use Rattle.tm_core.specs.Theorem.{view_at};
 
 use crate::fault::NoSuchCore;
 use crate::machine::Machine;
+use crate::unbuffered::Unbuffered;
 use tm_model::Counts;
 use tm_sets::{Kind, Sets};
 
@@ -15,6 +16,17 @@ impl<S: Sets> Machine<S> {
     /// How many lines the read set and the write set of a core have: none where it is condemned or outside a
     /// transaction. `NoSuchCore` (42). Takes no memory, and no time for each line.
     pub fn counts(&self, core: u8) -> Result<Counts, NoSuchCore>
+        ensures exists { IsOk result ↔ (core < length self.now.views) }
+        ensures reads { IfOk result (λ counts. counts.reads ≡ set.len (view_at self.now core).reads) }
+        ensures writes { IfOk result (λ counts. counts.writes ≡ set.len (view_at self.now core).writes) }
+    {
+        self.unbuffered.counts(core)
+    }
+}
+
+impl<S: Sets> Unbuffered<S> {
+    /// [`Machine::counts`] of a machine without store buffers.
+    pub(crate) fn counts(&self, core: u8) -> Result<Counts, NoSuchCore>
         ensures exists { IsOk result ↔ (core < length self.now.views) }
         ensures reads { IfOk result (λ counts. counts.reads ≡ set.len (view_at self.now core).reads) }
         ensures writes { IfOk result (λ counts. counts.writes ≡ set.len (view_at self.now core).writes) }

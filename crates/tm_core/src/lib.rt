@@ -11,6 +11,7 @@
 //!
 //! A step is explained by calls that are asked before it, and that change nothing: `Machine::preview` (which bytes it
 //! loads and stores, and why it is an abort), `Machine::hit_by` (whom a previewed step hits, on which line),
+//! `Machine::hit_by_drain` (whom the drain of a core's oldest store hits),
 //! `Machine::may_hit` (whether it may hit anybody) and `Machine::counts` (how large the sets are). `Machine::seen`
 //! tells a byte of memory as a core sees it, `Machine::kept` the value between the two steps of an instruction, and
 //! `Machine::is_core_alike` whether another machine shows a core as this one.
@@ -26,6 +27,12 @@
 //! sees. `Machine::steps_alone` makes steps of any kind of one core, one behind the other, as one call: in place where
 //! no other core sees them (`specs/InPlace.antt`), and else as the two calls above and as `Machine::step`.
 //!
+//! Each core has a store buffer, of which a machine is first looked at without (`unbuffered`). Where stores may be
+//! pending, a step goes by what it comes to on memory as its core sees it (`ahead`): it is made on that memory, over
+//! which the pending stores are laid for its time (`laid`), or its store is pending from then on, or it waits and is
+//! the drain of the oldest (`store_buffer`, `specs/StoreBuffers.antt`, `specs/Buffered.antt`). `Machine::pending` tells
+//! the stores of a core that are pending.
+//!
 //! Stands on `tm_rule` (one instruction), `tm_status`, `tm_sets` (read and write sets), `tm_buffer` (a transaction's
 //! bytes) and `ia_image` (programs). Memory is asked for only where a machine is made and by the answers of `run` and
 //! `sets`; `Machine::reopen` takes a machine back before its first step in place of a new one, and
@@ -33,10 +40,12 @@
 //! makes it as another machine of the same program is.
 #![tactic(auto)]
 
+mod ahead;
 mod alike;
 mod alone;
 mod body;
 mod boundary;
+mod buffered_steps;
 mod conflict;
 mod copy_lines;
 mod counts;
@@ -45,9 +54,12 @@ mod explain_hit;
 mod explain_laws;
 mod explain_reason;
 mod fault;
+mod fences;
 mod foretell;
 mod foretell_line;
+mod foretell_pending;
 mod in_place;
+mod laid;
 mod laws;
 mod limits;
 mod machine;
@@ -58,13 +70,17 @@ mod preview;
 mod reopen;
 mod reopen_lines;
 mod seen;
+mod seen_memory;
 mod start;
 mod step;
 mod steps_alone;
+mod store_buffer;
+mod store_rows;
 mod touches;
 mod transact;
 mod transaction;
 mod two_steps;
+mod unbuffered;
 mod under;
 mod usual;
 

@@ -1,7 +1,8 @@
-//! The law that a machine has no store that is pending.
+//! How many stores of a core may be pending, and the law that a machine with room for no store has none that is
+//! pending.
 //!
-//! The call does nothing: its contract is the law, for whoever asks of two machines whether they are alike, or of the
-//! bytes that a core sees.
+//! [`Machine::nothing_pending`] does nothing: its contract is the law, for whoever asks of two machines whether they
+//! are alike, or of the bytes that a core sees.
 
 ghost use Rattle.std.specs.Prelude.{◌≡◌, []};
 
@@ -9,11 +10,21 @@ use crate::machine::Machine;
 use tm_sets::Sets;
 
 impl<S: Sets> Machine<S> {
-    /// The law that no store of a core is pending: what a step stores is in memory at once.
+    /// How many stores of a core may be pending, 0 to 64: with 0 what a step stores is in memory at once.
+    #[inline(always)]
+    pub fn stores(&self) -> u8
+        ensures { result ≡ self.now.store_buffer }
+    {
+        self.most
+    }
+
+    /// The law that no store of a core is pending where there is room for none: what a step stores is in memory at
+    /// once.
     pub fn nothing_pending(&self)
+        requires { self.now.store_buffer ≡ 0 }
         ensures most { self.now.store_buffer ≡ 0 }
         ensures none { self.now.pending ≡ [] }
     {
-        let _base = self.base;
+        let _most = self.most;
     }
 }

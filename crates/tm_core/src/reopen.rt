@@ -16,6 +16,8 @@ ghost use Rattle.tm_core.specs.Theorem.{SameMachine, StandsFor};
 use crate::cpu::Cpu;
 use crate::machine::Machine;
 use crate::start::start_regs;
+use crate::store_rows::empty_rows;
+use crate::unbuffered::Unbuffered;
 use ia_image::Program;
 use tm_model::CoreState;
 use tm_sets::Sets;
@@ -68,6 +70,20 @@ impl<S: Sets> Machine<S> {
     /// program is then as [`Machine::new`] left it. Asked for a program with as many cores and bytes of memory as the
     /// machine has. Takes no memory, and looks at no line of the sets that no core has.
     pub fn reopen(&mut self, program: &Program)
+        requires cores { length self.old.views ≡ length program.now.entries }
+        requires size { length self.old.memory ≡ program.now.mem_size }
+        ensures opening { StandsFor self.new (opening_state program.now) (λ _. None) }
+        ensures same { SameMachine self.old self.new }
+    {
+        self.unbuffered.reopen(program);
+        empty_rows(&mut self.pending);
+        self.unbuffered.nothing_pending();
+    }
+}
+
+impl<S: Sets> Unbuffered<S> {
+    /// [`Machine::reopen`] of a machine without store buffers.
+    pub(crate) fn reopen(&mut self, program: &Program)
         requires cores { length self.old.views ≡ length program.now.entries }
         requires size { length self.old.memory ≡ program.now.mem_size }
         ensures opening { StandsFor self.new (opening_state program.now) (λ _. None) }

@@ -11,6 +11,8 @@ ghost use Rattle.tm_core.specs.Theorem.{SameMachine, StandsFor};
 
 use crate::machine::Machine;
 use crate::reopen::reopen_cpus;
+use crate::store_rows::empty_rows;
+use crate::unbuffered::Unbuffered;
 use ia_image::Program;
 use tm_sets::Sets;
 
@@ -54,6 +56,21 @@ impl<S: Sets> Machine<S> {
     /// it takes time for these lines, and for the lines of the cores' sets, whatever the size of memory. Asked with
     /// memory as the image makes it (see [`opening_memory`](crate::opening_memory)).
     pub fn reopen_lines(&mut self, program: &Program, opening: &[u8], lines: &[u32])
+        requires cores { length self.old.views ≡ length program.now.entries }
+        requires opening { opening.now ≡ memory_of program.now }
+        requires elsewhere { IsSameElsewhere lines.now self.old.memory opening.now }
+        ensures opening { StandsFor self.new (opening_state program.now) (λ _. None) }
+        ensures same { SameMachine self.old self.new }
+    {
+        self.unbuffered.reopen_lines(program, opening, lines);
+        empty_rows(&mut self.pending);
+        self.unbuffered.nothing_pending();
+    }
+}
+
+impl<S: Sets> Unbuffered<S> {
+    /// [`Machine::reopen_lines`] of a machine without store buffers.
+    pub(crate) fn reopen_lines(&mut self, program: &Program, opening: &[u8], lines: &[u32])
         requires cores { length self.old.views ≡ length program.now.entries }
         requires opening { opening.now ≡ memory_of program.now }
         requires elsewhere { IsSameElsewhere lines.now self.old.memory opening.now }

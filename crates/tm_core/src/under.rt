@@ -1,23 +1,26 @@
-//! A step of a core under an event that may befall it: [`Machine::step_under`].
+//! A step of a core under an event that may befall it: [`Machine::step_under`], and [`Machine::take`] of a pick.
 //!
-//! A core in a transaction that is not condemned aborts, its next instruction unread; nobody else is hit by that.
-//! Of any other core the step is that of [`Machine::step`]. Which steps come under an event is not decided here,
-//! but by a schedule or by `tm_pick`.
+//! A core in a transaction that is not condemned aborts, its next instruction unread; nobody else is hit by that. The
+//! oldest store of a core that is pending reaches memory, whatever the core is at. Where an event befalls nothing, the
+//! step is that of [`Machine::step`]. Which steps come under an event is not decided here, but by a schedule or by
+//! `tm_pick`.
 
 ghost use Rattle.std.specs.Prelude.{◌≡◌, ◌<◌, ◌≤◌, ◌++◌, ◌∷◌, ◌↔◌, ℕ, List, [], Option, Some, length, false};
 ghost use Rattle.std.specs.Prelude.{IfNone, IfOk, IfSome, IsOk, OnErr};
 ghost use Rattle.tm_model.specs.Conflicts.{Doomed};
-ghost use Rattle.tm_model.specs.State.{State};
+ghost use Rattle.tm_model.specs.State.{Pending, State};
 ghost use Rattle.tm_model.specs.declared.outcome.Event.TheVariants as event;
 ghost use Rattle.tm_model.specs.declared.outcome.Outcome.{Outcome};
+ghost use Rattle.tm_core.specs.Buffered.{MakesPending};
 ghost use Rattle.tm_core.specs.Representation.{IsHeld, IsStepUnder, cpu_at, cpu_views, is_open, kept_at, parts_setting};
 ghost use Rattle.tm_core.specs.Theorem.{IsRun, SameMachine, ShownMachine, StandsFor, TakesStepUnder, view_at};
 
 use crate::cpu::Cpu;
 use crate::fault::NoSuchCore;
-use crate::machine::{Machine, any_open};
+use crate::machine::Machine;
 use crate::transaction::abort;
-use tm_model::{CoreState, Event, Interference, Outcome};
+use crate::unbuffered::{Unbuffered, any_open};
+use tm_model::{CoreState, Event, Interference, Outcome, Pick};
 use tm_rule::Code;
 use tm_sets::{Kind, Sets};
 use tm_status::status;
@@ -53,9 +56,9 @@ fn abort_by<S: Sets>(
 
 impl<S: Sets> Machine<S> {
     /// One step of a core under an event. Where the core is in a transaction that is not condemned, `Event::Abort`
-    /// aborts it, whatever its next instruction is; anywhere else, and under `Event::Drain`, since no store is pending,
-    /// nothing is befallen, and the step is that of [`Machine::step`] (SDM volume 1, 16.3.8). `NoSuchCore` (42) where
-    /// there is none of this number. Takes no memory.
+    /// aborts it, whatever its next instruction is (SDM volume 1, 16.3.8); where a store of the core is pending,
+    /// `Event::Drain` writes the oldest to memory. Anywhere else nothing is befallen, and the step is that of
+    /// [`Machine::step`]. `NoSuchCore` (42) where there is none of this number. Takes no memory.
     pub fn step_under(&mut self, core: u8, event: Event) -> Result<Outcome, NoSuchCore>
         ensures exists { IsOk result ↔ (core < length self.old.views) }
         ensures same { SameMachine self.old self.new }
@@ -72,14 +75,25 @@ impl<S: Sets> Machine<S> {
         }
     }
 
-    // The law that each machine keeps: no store is pending.
-    fn has_none_pending(&self)
-        ensures { self.now.pending ≡ [] }
+    /// One step as a schedule picks it: that of a core, under an event ([`Machine::step_under`]) or under none
+    /// ([`Machine::step`]). `NoSuchCore` (42). Takes no memory.
+    pub fn take(&mut self, pick: Pick) -> Result<Outcome, NoSuchCore>
+        ensures exists { IsOk result ↔ (pick.core < length self.old.views) }
+        ensures same { SameMachine self.old self.new }
+        ensures ok { IfOk result (λ outcome. (state : State) (doomed : Doomed) → StandsFor self.old state doomed →
+            TakesStepUnder pick.event self.old self.new state doomed pick.core outcome) }
+        ensures run { IfOk result (λ outcome. (start : ShownMachine) (state : State) (doomed : Doomed)
+            (earlier : List (ℕ × Outcome)) → IsRun start self.old state doomed earlier →
+            IsRun start self.new state doomed (earlier ++ (pick.core, outcome) ∷ [])) }
+        ensures err { OnErr result (self.new ≡ self.old) }
     {
-        let _base = self.base;
+        match pick.event {
+            None => self.step(pick.core),
+            Some(event) => self.step_under(pick.core, event),
+        }
     }
 
-    // One step of a core: no store is pending that could reach memory.
+    // The drain of a core's oldest store, or one step of a core where none is pending.
     fn drain(&mut self, core: u8) -> Result<Outcome, NoSuchCore>
         ensures exists { IsOk result ↔ (core < length self.old.views) }
         ensures same { SameMachine self.old self.new }
@@ -90,7 +104,13 @@ impl<S: Sets> Machine<S> {
             IsRun start self.new state doomed (earlier ++ (core, outcome) ∷ [])) }
         ensures err { OnErr result (self.new ≡ self.old) }
     {
-        self.has_none_pending();
+        if core >= self.cores() {
+            return Err(NoSuchCore);
+        }
+        if self.has_pending(core) {
+            self.drain_pending(core);
+            return Ok(Outcome::Drained);
+        }
         self.step(core)
     }
 
@@ -134,6 +154,20 @@ impl<S: Sets> Machine<S> {
         ensures same { SameMachine self.old self.new }
         ensures ok { (state : State) (doomed : Doomed) → StandsFor self.old state doomed →
             TakesStepUnder (Some (event.Abort by)) self.old self.new state doomed core result }
+    {
+        let outcome = self.unbuffered.abort_under(core, by, depth);
+        self.unbuffered.nothing_pending();
+        outcome
+    }
+}
+
+impl<S: Sets> Unbuffered<S> {
+    // The abort of a core in a transaction of this depth, from outside of the program.
+    fn abort_under(&mut self, core: u8, by: Interference, depth: u8) -> Outcome
+        requires core { core < length self.old.views }
+        requires open { (view_at self.old core).mode ≡ CoreState.Open depth }
+        ensures { (most : ℕ) (pending : Pending) → MakesPending (Some (event.Abort by)) most self.old self.new
+            pending pending core result }
     {
         let code = Code {
             bytes: &self.code,

@@ -1,60 +1,50 @@
-use Rattle.std.proofs.Common.{length, ap, ◌∙◌, sym, subst}
-use Rattle.ia_image.specs.Program.{ProgramValue as Program}
-use Rattle.tm_sets.specs.Content.{Content}
+use Rattle.std.proofs.Common.{◌≡◌, ◌++◌, ◌∙◌, ap, drop, length, subst, sym, take}
+use Rattle.tm_model.specs.State.{opening_state}
+use Rattle.tm_core.specs.Buffered.{AreGivenUp, IsBuffered, pending_in, with_pending}
 use Rattle.tm_core.specs.Reopening.{IsSameElsewhere}
-use Rattle.tm_core.specs.Theorem.{ShownMachine}
-use Rattle.tm_core.proofs.MachineLemmas.{length-views_list}
-use Rattle.tm_core.proofs.Reopening.{reopened, same_reopened, stands_reopened}
+use Rattle.tm_core.specs.Theorem.{ShownMachine, StandsFor}
+use Rattle.std.proofs.Common.{None}
+use Rattle.tm_core.proofs.Buffered.{given_up, none_left, opened_with, same_rows}
+use Rattle.tm_core.proofs.MachineLemmas.{written_back}
 use Rattle.tm_core.proofs.machine.Machine.reopen_lines.Goals as goal
 
-pub reopen_cpus-requires-clause-cores : goal.reopen_cpus-requires-clause-cores
-reopen_cpus-requires-clause-cores g c =
-    let a : Content = g.S.Sets.content c.self.inside.sets in
-    ap length c.deref_mut-2.ensures.value ∙ sym (length-views_list a 0 c.self.inside.cpus.items)
-    ∙ ap (λ (s : ShownMachine). length s.views) c.self.view_is ∙ c.requires.cores
+pub reopen_lines-requires : goal.reopen_lines-requires
+reopen_lines-requires g c = record {
+  cores = ap (λ (s : ShownMachine). length s.views) c.self.view_is ∙ c.requires.cores;
+  opening = c.requires.opening;
+  elsewhere = subst (λ (s : ShownMachine). IsSameElsewhere c.args.lines.now s.memory c.args.opening.now)
+      (sym c.self.view_is) c.requires.elsewhere;
+}
 
 pub invariant_of-self : goal.invariant_of-self
 invariant_of-self g c =
-    let p : Program = c.args.program.now in
-    let a : Content = g.S.Sets.content c.self.inside.sets in
-    let b : Content = g.S.Sets.content c.reopen_cpus.new.sets in
-    reopened p c.args.self.now a b c.self.inside.code.items c.self.inside.base c.self.inside.memory.items
-    c.reopen_each.new.memory c.self.inside.cpus.items c.deref_mut-2.result.now c.reopen_cpus.new.cpus
-    c.self.inside.memory.len c.self.inside.cpus.len c.self.view_is c.requires.cores
-    (sym c.deref_mut.ensures.len ∙ ap length c.deref_mut.ensures.value)
-    (c.reopen_each.auto.memory ∙ ap length c.deref_mut.ensures.value) (c.reopen_each.ensures ∙ c.requires.opening)
-    (sym c.deref_mut-2.ensures.len ∙ ap length c.deref_mut-2.ensures.value) c.deref_mut-2.ensures.value
-    c.reopen_cpus.auto.cpus c.reopen_cpus.ensures.fixed c.reopen_cpus.ensures.starts c.reopen_cpus.ensures.empty
-    c.self.inside.rows.items c.self.inside.lines.items c.self.inside.busy c.self.invariant
+    let rows = c.self.inside.pending.items in
+    let rows2 = c.empty_rows.new.rows in
+    let back : take c.self.inside.pending.len (rows2 ++ drop (length rows2) rows) ≡ rows2 =
+    written_back rows rows2 c.self.inside.pending.len (c.empty_rows.auto.rows ∙ ap length c.deref_mut.ensures.value)
+    (sym c.deref_mut.ensures.len ∙ ap length c.deref_mut.ensures.value) in
+    let up : AreGivenUp rows rows2 =
+    subst (λ xs. AreGivenUp xs rows2) c.deref_mut.ensures.value c.empty_rows.ensures in
+    subst (λ xs. IsBuffered c.reopen_lines.new.self c.self.inside.direct c.self.inside.most xs c.self.inside.under)
+    (sym back)
+    (given_up c.self.invariant c.reopen_lines.new.self rows2 up.count up.each c.reopen_lines.ensures.same
+    c.nothing_pending.ensures.most c.nothing_pending.ensures.none)
 
 pub returns-clause-opening : goal.returns-clause-opening
 returns-clause-opening g c =
-    let p : Program = c.args.program.now in
-    let a : Content = g.S.Sets.content c.self.inside.sets in
-    let b : Content = g.S.Sets.content c.reopen_cpus.new.sets in
-    stands_reopened p c.args.self.now a b c.self.inside.code.items c.self.inside.base c.self.inside.memory.items
-    c.reopen_each.new.memory c.self.inside.cpus.items c.deref_mut-2.result.now c.reopen_cpus.new.cpus
-    c.self.inside.memory.len c.self.inside.cpus.len c.self.view_is c.requires.cores
-    (sym c.deref_mut.ensures.len ∙ ap length c.deref_mut.ensures.value)
-    (c.reopen_each.auto.memory ∙ ap length c.deref_mut.ensures.value) (c.reopen_each.ensures ∙ c.requires.opening)
-    (sym c.deref_mut-2.ensures.len ∙ ap length c.deref_mut-2.ensures.value) c.deref_mut-2.ensures.value
-    c.reopen_cpus.auto.cpus c.reopen_cpus.ensures.fixed c.reopen_cpus.ensures.starts c.reopen_cpus.ensures.empty
-    (λ i h. (c.self.invariant.sound.held i h).same_room)
+    let rows = c.self.inside.pending.items in
+    let rows2 = c.empty_rows.new.rows in
+    let back : take c.self.inside.pending.len (rows2 ++ drop (length rows2) rows) ≡ rows2 =
+    written_back rows rows2 c.self.inside.pending.len (c.empty_rows.auto.rows ∙ ap length c.deref_mut.ensures.value)
+    (sym c.deref_mut.ensures.len ∙ ap length c.deref_mut.ensures.value) in
+    let up : AreGivenUp rows rows2 =
+    subst (λ xs. AreGivenUp xs rows2) c.deref_mut.ensures.value c.empty_rows.ensures in
+    subst (λ xs. StandsFor (with_pending c.reopen_lines.new.self c.self.inside.most (pending_in xs))
+    (opening_state c.args.program.now) (λ _. None)) (sym back)
+    (opened_with c.args.program.now c.reopen_lines.new.self c.self.inside.most (pending_in rows2)
+    c.reopen_lines.ensures.opening
+    (none_left c.self.invariant c.reopen_lines.new.self rows2 up.count up.each))
 
 pub returns-clause-same : goal.returns-clause-same
 returns-clause-same g c =
-    let p : Program = c.args.program.now in
-    let a : Content = g.S.Sets.content c.self.inside.sets in
-    let b : Content = g.S.Sets.content c.reopen_cpus.new.sets in
-    same_reopened p c.args.self.now a b c.self.inside.code.items c.self.inside.base c.self.inside.memory.items
-    c.reopen_each.new.memory c.self.inside.cpus.items c.deref_mut-2.result.now c.reopen_cpus.new.cpus
-    c.self.inside.memory.len c.self.inside.cpus.len c.self.view_is c.requires.cores
-    (sym c.deref_mut.ensures.len ∙ ap length c.deref_mut.ensures.value)
-    (c.reopen_each.auto.memory ∙ ap length c.deref_mut.ensures.value) (c.reopen_each.ensures ∙ c.requires.opening)
-    (sym c.deref_mut-2.ensures.len ∙ ap length c.deref_mut-2.ensures.value) c.deref_mut-2.ensures.value
-    c.reopen_cpus.auto.cpus c.reopen_cpus.ensures.fixed c.reopen_cpus.ensures.starts c.reopen_cpus.ensures.empty
-
-pub reopen_each-requires : goal.reopen_each-requires
-reopen_each-requires g c =
-    subst (λ memory. IsSameElsewhere c.args.lines.now memory c.args.opening.now)
-    (sym (c.deref_mut.ensures.value ∙ ap (λ (s : ShownMachine). s.memory) c.self.view_is)) c.requires.elsewhere
+    same_rows c.self.view_is c.reopen_lines.new.self _ c.reopen_lines.ensures.same
