@@ -106,6 +106,7 @@ fn limits_of_a_board(rt: HostRuntime) {
     let none = Limits {
         read_lines: 0,
         write_lines: 1,
+        stores: 0,
     };
     for limit in [0, MOST_STEPS + 1, u64::MAX] {
         assert!(rt;
@@ -115,12 +116,23 @@ fn limits_of_a_board(rt: HostRuntime) {
             )
         );
     }
-    assert!(rt;
-        matches!(
-            Board::new(rt.alloc(), &program, none, 1),
-            Err(BoardFault::BadLimits)
-        )
-    );
+    let too_many = Limits {
+        stores: 65,
+        ..LIMITS
+    };
+    for limits in [none, too_many] {
+        assert!(rt;
+            matches!(
+                Board::new(rt.alloc(), &program, limits, 1),
+                Err(BoardFault::BadLimits)
+            )
+        );
+    }
+    let stores = Limits {
+        stores: 64,
+        ..LIMITS
+    };
+    assert!(rt; Board::new(rt.alloc(), &program, stores, 1).is_ok());
     let most = Board::new(rt.alloc(), &program, LIMITS, MOST_STEPS).expect(&rt, "the most steps");
     assert_eq!(rt; most.limit(), 16_777_216);
     assert!(rt; most.history().is_empty());

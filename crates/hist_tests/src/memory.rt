@@ -16,6 +16,7 @@ use tm_sets::{Directory, Kind, PlainSets, Sets};
 const LIMITS: Limits = Limits {
     read_lines: 16,
     write_lines: 16,
+    stores: 0,
 };
 
 /// The program, on two cores.

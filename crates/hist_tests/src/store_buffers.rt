@@ -1,5 +1,5 @@
-//! Serial runs with store buffers, of programs and steps that were written by hand: what each ends with, and at which
-//! step a list is no run.
+//! Serial runs and boards with store buffers, of programs and steps that were written by hand: what each ends with, at
+//! which step a list is no run, and what is printed of pending stores.
 //!
 //! X is the doubleword at 1000h and Y the one at 1040h, on a line of its own; a core begins with its number in EAX. The
 //! code of a program lies from 100h on, core by core, in a memory of 65,536 bytes. What is wanted was worked out from
@@ -13,8 +13,12 @@ use rows::{REFUSED, RUNS};
 use std::alloc::Global;
 use std::fmt;
 use std::process::Abort;
-use tm_core::NoSuchCore;
-use tm_hist::{History, Serial, SerialFault, serial, serial_with};
+use text_out::{ToVec, WriteFault};
+use tm_core::{Limits, Machine, NoSuchCore};
+use tm_hist::{
+    Board, History, Serial, SerialFault, serial, serial_with, write_core as write_core_line,
+    write_pending, write_state,
+};
 use tm_model::Interference::Interrupt;
 use tm_model::Outcome;
 use tm_model::Outcome::{
@@ -212,6 +216,109 @@ fn each_list_is_refused_where_its_row_says(rt: HostRuntime) {
             Ok(_) => assert!(rt; false, "a run: {row}"),
             Err(fault) => assert!(rt; fault == SerialFault::NotARun(index), "{row}"),
         }
+    }
+}
+
+/// A board with room for so many stores of a core.
+fn board_of(rt: &impl Abort, alloc: Global, program: &Program, stores: u32) -> Board {
+    let limits = Limits {
+        read_lines: 16,
+        write_lines: 16,
+        stores,
+    };
+    Board::new(alloc, program, limits, 100).expect(rt, "a board")
+}
+
+// A board makes each run, drains and aborts as its picks tell of them, and its history is replayed.
+#[test]
+fn each_run_is_a_boards(rt: HostRuntime) {
+    let alloc = rt.alloc();
+    for row in RUNS.lines() {
+        let (run, wanted) = run_of(&rt, alloc, row);
+        let mut board = board_of(&rt, alloc, &run.program, run.stores);
+        let history = History::new(&run.steps);
+        for index in 0..history.len() {
+            let pick = history.pick_at(index).expect(&rt, "a pick");
+            let (_core, outcome) = history.get(index).expect(&rt, "a step");
+            assert_eq!(rt; board.step_by(pick), Ok(outcome), "step {index}: {row}");
+        }
+        let end = board.replay(alloc).expect(&rt, "a run is replayed");
+        let ended = Ended {
+            end: &end,
+            cores: run.cores,
+        };
+        let text = format!(in alloc; "{ended}").expect(&rt, "ample memory");
+        assert_eq!(rt; text.as_str(), wanted, "{row}");
+        assert!(rt; end.memory() == board.machine().view(), "{row}");
+    }
+}
+
+// Under no event a store stays pending until a step waits for it, and that step is its drain.
+#[test]
+fn a_step_that_waits_is_a_drain(rt: HostRuntime) {
+    let alloc = rt.alloc();
+    let program = program_of(&rt, alloc, "x=1 y=2 eax=x mfence hlt");
+    let mut board = board_of(&rt, alloc, &program, 2);
+    let pending = [1, 2, 2, 1, 0, 0, 0, 0];
+    let told = [
+        Plain,
+        Plain,
+        Plain,
+        Drained,
+        Drained,
+        Plain,
+        Stopped(Stop::Halt),
+        Idle,
+    ];
+    for (outcome, count) in told.iter().zip(pending.iter()) {
+        assert_eq!(rt; board.step(0), Ok(*outcome));
+        let stores = board.machine().pending(0).expect(&rt, "a core");
+        assert_eq!(rt; stores.len(), *count);
+    }
+    assert!(rt; board.replay(alloc).is_ok());
+}
+
+/// What is printed of a board's stores that are pending, of two cores and of one that is not there.
+fn pending_lines(alloc: Global, board: &Board) -> Result<Vec<u8>, WriteFault> {
+    let mut out = ToVec::new(Vec::new(alloc));
+    for core in 0..3 {
+        write_pending(board.machine(), core, &mut out)?;
+    }
+    Ok(out.bytes)
+}
+
+/// What is printed of a machine's state, and the same by its parts.
+fn state_lines(alloc: Global, machine: &Machine) -> Result<(Vec<u8>, Vec<u8>), WriteFault> {
+    let mut whole = ToVec::new(Vec::new(alloc));
+    write_state(machine, &mut whole)?;
+    let mut parts = ToVec::new(Vec::new(alloc));
+    for core in 0..machine.cores() {
+        write_core_line(machine, core, &mut parts)?;
+    }
+    for core in 0..machine.cores() {
+        write_pending(machine, core, &mut parts)?;
+    }
+    Ok((whole.bytes, parts.bytes))
+}
+
+// The oldest first, a byte in two digits and a doubleword in eight; nothing where there is no room for a store.
+#[test]
+fn pending_stores_are_printed(rt: HostRuntime) {
+    let alloc = rt.alloc();
+    let program = program_of(&rt, alloc, "x=1 low=7 | y=2");
+    let lines = "pending 0 00001000 00000001\npending 0 00001000 07\npending 1 00001040 00000002\n";
+    for (stores, wanted) in [(0, ""), (4, lines)] {
+        let mut board = board_of(&rt, alloc, &program, stores);
+        for core in [0, 0, 1] {
+            assert_eq!(rt; board.step(core), Ok(Plain));
+        }
+        let text = pending_lines(alloc, &board).expect(&rt, "written");
+        assert!(rt;
+            text.as_slice() == wanted.as_bytes(),
+            "with room for {stores}"
+        );
+        let (whole, parts) = state_lines(alloc, board.machine()).expect(&rt, "written");
+        assert!(rt; whole == parts, "with room for {stores}");
     }
 }
 

@@ -1,5 +1,5 @@
 //! What no row of `doc_tests` shows of a machine: whole transactions, sets of the caller's own, the calls of
-//! `tm_quick`, and what is refused. Code lies from 100h on, in a memory of 65,536 bytes.
+//! `tm_quick`, store buffers, and what is refused. Code lies from 100h on, in a memory of 65,536 bytes.
 
 mod alike;
 mod both;
@@ -7,6 +7,7 @@ mod drawn;
 mod in_place;
 mod quick;
 mod refusals;
+mod stores;
 mod whole;
 
 use ia_image::{Program, load};

@@ -14,14 +14,16 @@ use Rattle.tm_model.specs.State.{Closed, Core, Halted, Midway, Opened, State, op
 use Rattle.tm_model.specs.Steps.{run}
 use Rattle.tm_core.specs.Theorem.{SameMachine, ShownMachine as Machine, StandsFor, machine_setting as machine_setting}
 use Rattle.tm_core.specs.Theorem.{view_at}
-use Rattle.tm_hist.specs.Board.{IsBoard, IsHistory, ShownBoard, bad_limit, stop_shown}
+use Rattle.tm_hist.specs.Board.{IsBoard, IsHistory, ShownBoard, bad_limit, board_setting, stop_shown}
 use Rattle.tm_hist.specs.History.{pair_of}
 use Rattle.tm_hist.specs.Replay.{IsRefused, IsReplay, Replays, cores_of}
 use Rattle.tm_hist.specs.Serial.{IsStuck, base_of, core_at, stop_of}
 use Rattle.tm_hist.proofs.RunFronts.{none_pending, run_front, same_run}
+use Rattle.tm_hist.proofs.StopsDrained.{stopped_drained}
 use Rattle.tm_model.specs.declared.outcome.Outcome.{Outcome}
 use Rattle.tm_model.specs.declared.outcome.CoreState.{CoreState}
 use Rattle.tm_model.specs.declared.outcome.CoreState.TheVariants.{Running, Condemned, Stopped as AtStop}
+use Rattle.tm_rule.specs.declared.kinds.Stop.{Stop}
 use Rattle.tm_rule.specs.declared.kinds.OutsideResult.{OutsideResult}
 use Rattle.tm_rule.specs.declared.kinds.OutsideResult.TheVariants.{Goes, Begins, Stops}
 use Rattle.tm_hist.specs.declared.pair.Pair.{Pair}
@@ -31,8 +33,7 @@ use Rattle.tm_hist.specs.declared.replay.SerialFault.TheVariants.{NotARun, NoMem
 
 pub is_history : (b : ShownBoard) (capacity : ℕ) → IsBoard b capacity → IsHistory b
 is_history b capacity h =
-    let same : machine_setting h.start ≡ program_setting b.program b.limits.read_lines b.limits.write_lines 0 =
-    h.rules in
+    let same : machine_setting h.start ≡ board_setting b = h.rules in
     record {
       rules = h.is_run.same.rules ∙ h.rules;
       cores = h.is_run.same.cores ∙ h.cores;
@@ -45,16 +46,18 @@ is_history b capacity h =
           (doomed_at_end k (opening_state b.program) (λ _. None) b.history)) same h.is_run.takes.stands;
     }
 
--- no store is pending
-pub none_behind : (b : ShownBoard) → (h : IsHistory b) → (j : ℕ) → [] ≡ h.end.pending j
-none_behind b h =
-    none_pending (program_setting b.program b.limits.read_lines b.limits.write_lines 0) b.program b.history h.end refl
-    h.is_run
-
-pub none_now : (b : ShownBoard) (capacity : ℕ) → (h : IsBoard b capacity) → (j : ℕ) → [] ≡ h.is_run.takes.last.pending j
-none_now b capacity h =
+-- where none may be pending, none is
+pub none_now : (b : ShownBoard) (capacity : ℕ) → (h : IsBoard b capacity) → b.machine.store_buffer ≡ 0 → (j : ℕ)
+    → [] ≡ h.is_run.takes.last.pending j
+none_now b capacity h off =
     none_pending (machine_setting h.start) b.program b.history h.is_run.takes.last
-    (ap (λ (k : Setting). k.store_buffer) h.rules) h.is_run.takes.is_run
+    (sym (ap (λ (k : Setting). k.store_buffer) h.is_run.same.rules) ∙ off) h.is_run.takes.is_run
+
+-- a core that has stopped has none pending
+pub drained_now : (b : ShownBoard) (capacity : ℕ) → (h : IsBoard b capacity) → (j : ℕ) (why : Stop)
+    → stop_of (h.is_run.takes.last.cores j) ≡ Some why → h.is_run.takes.last.pending j ≡ []
+drained_now b capacity h =
+    stopped_drained (machine_setting h.start) b.program b.history h.is_run.takes.last h.is_run.takes.is_run
 
 or_false : (a b : Bool) → (a || b) ≡ false → b ≡ false
 or_false true b e = cc
@@ -64,7 +67,8 @@ or_false false b e = e
 pub new_board : (p q : Program) (l : Limits) (limit : ℕ) (made : List Pair) (capacity : ℕ) (machine : Machine)
     → q ≡ p → made ≡ [] →
     StandsFor machine (opening_state p) (λ _. None)
-    → machine_setting machine ≡ program_setting p l.read_lines l.write_lines 0 → length machine.views ≡ length p.entries
+    → machine_setting machine ≡ program_setting p l.read_lines l.write_lines l.stores
+    → length machine.views ≡ length p.entries
     → bad_limit limit ≡ false → limit ≤ capacity →
     IsBoard (record { program = q; limits = l; limit = limit; history = map pair_of made; machine = machine }) capacity
 new_board p q l limit made capacity machine same none stands rules cores good room =
@@ -110,9 +114,10 @@ restarted p l limit before after history old new made h room none same stands =
 
 -- the run by the rules that ask for no limits
 free_run : (b : ShownBoard)
-    → (h : IsHistory b) → run (program_setting b.program 0 0 0) (opening_state b.program) b.history ≡ Some h.end
+    → (h : IsHistory b)
+    → run (program_setting b.program 0 0 b.limits.stores) (opening_state b.program) b.history ≡ Some h.end
 free_run b h = sym (same_run (code_of b.program) b.program.base b.program.mem_size b.limits.read_lines
-    b.limits.write_lines 0 b.history (opening_state b.program)) ∙ h.is_run
+    b.limits.write_lines b.limits.stores b.history (opening_state b.program)) ∙ h.is_run
 
 -- what a core shows of its registers before a transaction, and of its stop
 record Shows (x : Core) (v : View) : Type 0 where
@@ -152,7 +157,7 @@ shows k m (Opened s n) (Some depth) v e =
 shows k m (Opened s n) None v e =
     option_and_then_some (view_inside s) (isolated_body k s m n) v e (λ b is e2. opened s n b v e2)
 
-pub replays : (b : ShownBoard) (s : Serial) → IsHistory b → IsReplay b.program 0 b.history s → Replays b s
+pub replays : (b : ShownBoard) (s : Serial) → IsHistory b → IsReplay b.program b.limits.stores b.history s → Replays b s
 replays b s h r =
     let same : r.end ≡ h.end = same_Some r.end h.end (sym r.ran ∙ free_run b h) in
     let size : length (cores_of s) ≡ length b.machine.views =
@@ -162,8 +167,8 @@ replays b s h r =
     let core : core_at (cores_of s) j ≡ h.end.cores j = r.holds.each j within ∙ ap (λ (x : State). x.cores j) same in
     subst (λ (x : Core). Shows x (view_at b.machine j)) (sym core)
     (shows (machine_setting b.machine) (seen_by h.end j) (h.end.cores j)
-    (doomed_at_end (program_setting b.program b.limits.read_lines b.limits.write_lines 0) (opening_state b.program)
-    (λ _. None) b.history j) (view_at b.machine j) (h.stands.each j below)) in
+    (doomed_at_end (board_setting b) (opening_state b.program) (λ _. None) b.history j) (view_at b.machine j)
+    (h.stands.each j below)) in
     record {
       memory = r.holds.memory ∙ ap (λ (x : State). x.memory) same ∙ sym h.stands.same_memory;
       count = size;
@@ -175,28 +180,31 @@ replays b s h r =
     }
 
 never_stuck : (b : ShownBoard) (i : ℕ) → IsHistory b
-    → IsStuck (program_setting b.program 0 0 0) (opening_state b.program) b.history i → ⊥
-never_stuck b i h stuck = run_front (program_setting b.program 0 0 0) b.history (i + 1) (opening_state b.program) h.end
+    → IsStuck (program_setting b.program 0 0 b.limits.stores) (opening_state b.program) b.history i → ⊥
+never_stuck b i h stuck =
+    run_front (program_setting b.program 0 0 b.limits.stores) b.history (i + 1) (opening_state b.program) h.end
     (free_run b h) stuck.stuck
 
 pub never_refused : (b : ShownBoard) (fault : SerialFault) → IsHistory b
-    → (fault ≡ NoMemory) ⊎ IsRefused b.program 0 b.history fault → fault ≡ NoMemory
+    → (fault ≡ NoMemory) ⊎ IsRefused b.program b.limits.stores b.history fault → fault ≡ NoMemory
 never_refused b fault h (inl same) = same
 never_refused b (NotARun i) h (inr refused) = absurd (never_stuck b i h refused)
 never_refused b NoMemory h (inr refused) = refl
 
--- the same of a program and a history that are the board's
-pub replays_at : (b : ShownBoard) (p : Program) (history : List (ℕ × Outcome)) (s : Serial) → IsHistory b
-    → p ≡ b.program → history ≡ b.history → IsReplay p 0 history s → Replays b s
-replays_at b p history s h same_program same_history r =
+-- the same of a program, limits and a history that are the board's
+pub replays_at : (b : ShownBoard) (p : Program) (l : Limits) (history : List (ℕ × Outcome)) (s : Serial) → IsHistory b
+    → p ≡ b.program → l ≡ b.limits → history ≡ b.history → IsReplay p l.stores history s → Replays b s
+replays_at b p l history s h same_program same_limits same_history r =
     replays b s h
-    (subst (λ (x : Program). IsReplay x 0 b.history s) same_program
-    (subst (λ (x : List (ℕ × Outcome)). IsReplay p 0 x s) same_history r))
+    (subst (λ (x : Program). IsReplay x b.limits.stores b.history s) same_program
+    (subst (λ (x : Limits). IsReplay p x.stores b.history s) same_limits
+    (subst (λ (x : List (ℕ × Outcome)). IsReplay p l.stores x s) same_history r)))
 
-pub never_refused_at : (b : ShownBoard) (p : Program) (history : List (ℕ × Outcome)) (fault : SerialFault) → IsHistory b
-    → p ≡ b.program → history ≡ b.history →
-    (fault ≡ NoMemory) ⊎ IsRefused p 0 history fault → fault ≡ NoMemory
-never_refused_at b p history fault h same_program same_history r =
+pub never_refused_at : (b : ShownBoard) (p : Program) (l : Limits) (history : List (ℕ × Outcome)) (fault : SerialFault)
+    → IsHistory b → p ≡ b.program → l ≡ b.limits → history ≡ b.history →
+    (fault ≡ NoMemory) ⊎ IsRefused p l.stores history fault → fault ≡ NoMemory
+never_refused_at b p l history fault h same_program same_limits same_history r =
     never_refused b fault h
-    (subst (λ (x : Program). (fault ≡ NoMemory) ⊎ IsRefused x 0 b.history fault) same_program
-    (subst (λ (x : List (ℕ × Outcome)). (fault ≡ NoMemory) ⊎ IsRefused p 0 x fault) same_history r))
+    (subst (λ (x : Program). (fault ≡ NoMemory) ⊎ IsRefused x b.limits.stores b.history fault) same_program
+    (subst (λ (x : Limits). (fault ≡ NoMemory) ⊎ IsRefused p x.stores b.history fault) same_limits
+    (subst (λ (x : List (ℕ × Outcome)). (fault ≡ NoMemory) ⊎ IsRefused p l.stores x fault) same_history r)))

@@ -1,7 +1,7 @@
--- A core's step, under an event or under none, is idle exactly where the core has stopped.
-use Rattle.std.proofs.Common.{◌≡◌, ℕ, ◌<◌, Bool, true, false, cond, eqb, List, [], ◌++◌, length, Option, Some, None}
+-- A core's step, under an event or under none and with no store pending, is idle only where the core has stopped; there
+-- it is.
+use Rattle.std.proofs.Common.{◌≡◌, ℕ, Bool, true, false, cond, eqb, List, [], ◌++◌, Option, Some, None}
 use Rattle.std.proofs.Common.{refl, sym, ap, ◌∙◌}
-use Rattle.std.specs.Prelude.{◌↔◌}
 use Rattle.std.proofs.lemmas.Option.{option_and_then_some, same_Some}
 use Rattle.ia_regs.specs.declared.Regs.{Regs}
 use Rattle.tm_rule.specs.declared.kinds.Stop.{Stop}
@@ -13,7 +13,7 @@ use Rattle.tm_model.specs.Owed.{abort_at, have_room, owed_after, owed_inside, ow
 use Rattle.tm_model.specs.Owed.{owed_with_room}
 use Rattle.tm_model.specs.Setting.{Setting, outside_at}
 use Rattle.tm_model.specs.Shown.{View, view_inside, view_of, view_outside}
-use Rattle.tm_model.specs.State.{Closed, Core, Halted, Midway, Opened, State}
+use Rattle.tm_model.specs.State.{Closed, Core, Halted, Midway, Opened}
 use Rattle.tm_model.specs.declared.outcome.CoreState.TheVariants.{Stopped as AtStop}
 use Rattle.tm_model.specs.declared.outcome.Outcome.{Outcome}
 use Rattle.tm_model.specs.declared.outcome.Outcome.TheVariants.{Idle, Inside, Committed}
@@ -22,10 +22,7 @@ use Rattle.tm_rule.specs.declared.kinds.OutsideResult.TheVariants.{Goes, Begins,
 use Rattle.tm_rule.specs.declared.kinds.InsideResult.{InsideResult}
 use Rattle.tm_rule.specs.declared.kinds.InsideResult.TheVariants.{GoesOn, Nests, Ends, Fails}
 use Rattle.tm_status.specs.declared.cause.Cause.TheVariants.{Capacity}
-use Rattle.tm_core.specs.Theorem.{ShownMachine as Machine, StandsFor, TakesStepUnder, machine_setting, view_at}
 use Rattle.tm_hist.specs.Board.{stop_shown}
-use Rattle.tm_hist.proofs.Stops.{IsHalted, is_halted}
-use Rattle.tm_hist.proofs.UnderEvents.{owed_alone, shown_alone}
 
 outside_moves : (two : Bool) (r : OutsideResult) → owed_outside two r ≡ Idle → ⊥
 outside_moves two (Stops x) e = cc
@@ -52,10 +49,10 @@ inside_moves k b (Nests s) e = room_moves k b [] Inside (λ f. cc) e
 inside_moves k b (Ends s) e = room_moves k b [] (cond (eqb b.depth 1) Committed Inside) (end_moves (eqb b.depth 1)) e
 
 -- the core shows a stop
-abbrev ShowsStop : View → Type 0
+abbrev pub ShowsStop : View → Type 0
 ShowsStop v = (why : Stop) × (stop_shown v.mode ≡ Some why)
 
-idle_stops : (k : Setting) (m : List ℕ) (x : Core) (dx : Option ℕ) (v : View) → view_of k m x dx ≡ Some v
+pub idle_stops : (k : Setting) (m : List ℕ) (x : Core) (dx : Option ℕ) (v : View) → view_of k m x dx ≡ Some v
     → owed_outcome k m x dx ≡ Idle → ShowsStop v
 idle_stops k m (Halted s why) None v e i =
     (why, ap (λ (u : View). stop_shown u.mode) (sym (same_Some (view_outside (AtStop why) s) v e)))
@@ -69,7 +66,7 @@ idle_stops k m (Opened s n) None v e i = absurd (option_and_then_some (view_insi
     (λ b is e2. inside_moves k b (instruction_after k m b) (ap (owed_after k m) (sym is) ∙ i)))
 
 -- no abort by an event is idle
-idle_stops_under : (event : Option Event) (k : Setting) (m : List ℕ) (x : Core) (dx : Option ℕ) (v : View)
+pub idle_stops_under : (event : Option Event) (k : Setting) (m : List ℕ) (x : Core) (dx : Option ℕ) (v : View)
     → view_of k m x dx ≡ Some v → owed_under event k m [] x dx ≡ Idle → ShowsStop v
 idle_stops_under None k m x dx v e i = idle_stops k m x dx v e i
 idle_stops_under (Some event.Drain) k m x dx v e i = idle_stops k m x dx v e i
@@ -80,26 +77,8 @@ idle_stops_under (Some (event.Abort by)) k m (Closed s) dx v e i = idle_stops k 
 idle_stops_under (Some (event.Abort by)) k m (Midway s value) dx v e i = idle_stops k m (Midway s value) dx v e i
 idle_stops_under (Some (event.Abort by)) k m (Halted s why) dx v e i = idle_stops k m (Halted s why) dx v e i
 
-halted_idles : (event : Option Event) (k : Setting) (m : List ℕ) (s : Regs) (why : Stop) (dx : Option ℕ)
+pub halted_idles : (event : Option Event) (k : Setting) (m : List ℕ) (s : Regs) (why : Stop) (dx : Option ℕ)
     → owed_under event k m [] (Halted s why) dx ≡ Idle
 halted_idles None k m s why dx = refl
 halted_idles (Some event.Drain) k m s why dx = refl
 halted_idles (Some (event.Abort by)) k m s why dx = refl
-
--- of a core that has no store pending
-pub idle_exactly : (event : Option Event) (old new : Machine) (a : State) (d : ℕ → Option ℕ) (c : ℕ) (o : Outcome)
-    → [] ≡ a.pending c → StandsFor old a d → c < length old.views → TakesStepUnder event old new a d c o →
-    (o ≡ Idle) ↔ ShowsStop (view_at old c)
-idle_exactly event old new a d c o none stands below takes =
-    let k : Setting = machine_setting old in
-    let owes : o ≡ owed_under event k a.memory [] (a.cores c) (d c) =
-    takes.is_owed ∙ owed_alone event k a d c none in
-    let shows : view_of k a.memory (a.cores c) (d c) ≡ Some (view_at old c) =
-    shown_alone k a d c (view_at old c) none (stands.each c below) in (
-      λ idle. idle_stops_under event k a.memory (a.cores c) (d c) (view_at old c) shows (sym owes ∙ idle),
-      λ stop.
-          let h : IsHalted (a.cores c) (d c) stop.0 =
-          is_halted k a.memory stop.0 (a.cores c) (d c) (view_at old c) shows stop.1 in
-          owes ∙ ap (λ x. owed_under event k a.memory [] x (d c)) h.core
-          ∙ halted_idles event k a.memory h.regs stop.0 (d c),
-    )

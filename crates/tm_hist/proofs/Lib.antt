@@ -7,9 +7,11 @@ pub mod QueueSteps
 pub mod SeenBytes
 pub mod RunFronts
 pub mod Stops
+pub mod StopsDrained
 pub mod Idles
 pub mod Boards
 pub mod Pushes
 pub mod UnderEvents
+pub mod PendingBoards
 pub mod Owed
 mod HistoryCores

@@ -79,14 +79,16 @@ same_then : (a b c : Board) → SameBoard a b → SameBoard b c → SameBoard a 
 same_then a b c h k =
     record { program = k.program ∙ h.program; limits = k.limits ∙ h.limits; limit = k.limit ∙ h.limit }
 
+-- the rules of a program's machine under these limits
+abbrev setting_under : Program → Limits → Setting
+setting_under program limits = program_setting program limits.read_lines limits.write_lines limits.stores
+
 -- what is owed behind a history of a program under these limits
 abbrev pub OwedBehind : Option Event → Program → Limits → List (ℕ × Outcome) → ℕ → Outcome → Type 0
 OwedBehind event program limits history core outcome =
-    (end : State)
-    → run (program_setting program limits.read_lines limits.write_lines 0) (opening_state program) history ≡ Some end →
-    IsOwedUnder event (program_setting program limits.read_lines limits.write_lines 0) end
-    (doomed_at_end (program_setting program limits.read_lines limits.write_lines 0) (opening_state program) (λ _. None)
-    history) core outcome
+    (end : State) → run (setting_under program limits) (opening_state program) history ≡ Some end →
+    IsOwedUnder event (setting_under program limits) end
+    (doomed_at_end (setting_under program limits) (opening_state program) (λ _. None) history) core outcome
 
 -- one step more, under the event that the next outcome tells of
 pub first_more : (board before after : Board) (n core : ℕ) (known made : Outcome)
@@ -104,7 +106,7 @@ first_more board before after n core known made at law so_far same grown owes =
     so_far.same.limits
     (subst (λ (h : List (ℕ × Outcome)). OwedBehind (event_told known) before.program before.limits h core made)
     so_far.history owes)) in
-    let next = owed_next (program_setting board.program board.limits.read_lines board.limits.write_lines 0)
-    (opening_state board.program) (λ _. None) board.history n core known made at law.are_owed behind in
+    let next = owed_next (setting_under board.program board.limits) (opening_state board.program) (λ _. None)
+    board.history n core known made at law.are_owed behind in
     let count : suc n ≡ n + 1 = omega arith in
     record { same = all; history = pairs ∙ next ∙ ap (λ k. take k board.history) count }

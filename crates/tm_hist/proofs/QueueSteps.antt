@@ -1,5 +1,5 @@
 -- Steps of a core with stores pending, case by case.
-use Rattle.std.proofs.Common.{◌≡◌, ℕ, ◌+◌, ◌<◌, ◌≤◌, Bool, true, false, not, ◌||◌, List, [], ◌∷◌, ◌++◌, length, Option}
+use Rattle.std.proofs.Common.{◌≡◌, ℕ, ◌<◌, ◌≤◌, Bool, true, false, not, ◌||◌, List, [], ◌∷◌, ◌++◌, length, Option}
 use Rattle.std.proofs.Common.{Some, None, refl, sym, ap, ◌∙◌, subst, arith, get_or, nat_eq, nat_lt, if◌then◌else◌}
 use Rattle.std.specs.Prelude.{All, IfSome, ◌==◌, remove, suc}
 use Rattle.std.specs.Option.{option_and_then, option_map}

@@ -1,7 +1,8 @@
 -- A text that is written a row at a time.
-use Rattle.std.proofs.Common.{◌≡◌, ℕ, zero, suc, ◌+◌, ◌-◌, ◌<◌, List, ◌∷◌, ◌++◌, sym, ◌∙◌, ap, subst, arith, append-nil}
-use Rattle.std.proofs.Common.{zero-add, add-zero}
+use Rattle.std.proofs.Common.{◌≡◌, ℕ, zero, suc, ◌+◌, ◌-◌, ◌<◌, List, [], ◌∷◌, ◌++◌, sym, ◌∙◌, ap, subst, arith}
+use Rattle.std.proofs.Common.{append-nil, append_assoc, zero-add, add-zero, drop, get_or, length, take, take-suc}
 use Rattle.std.specs.List.{flat_map, range_with_len}
+use Rattle.std.proofs.lemmas.List.{take-append-drop}
 use Rattle.std.proofs.lemmas.List.Concat.{flat_map-append}
 use Rattle.std.specs.Prelude.{Result, IsErr}
 use Rattle.std.proofs.lemmas.Result.{MatchResult-from_err}
@@ -53,3 +54,24 @@ pub writes_stopped_row : {T E : Type 0} {a b c : Device} (f : ℕ → List ℕ) 
 writes_stopped_row {T} {E} {a} {b} {c} f i n r failed l h k =
     MatchResult-from_err r (λ _. Wrote a c (flat_map f (range_with_len 0 n)))
     (λ _. Stopped a c (flat_map f (range_with_len 0 n))) failed (λ _. stopped_row f i n l h k)
+
+-- the same of the items of a list: those up to one, that one, and the others
+pub items_split : {A : Type 0} (f : A → List ℕ) (xs : List A) (i : ℕ) (d : A) → i < length xs →
+    flat_map f xs ≡ flat_map f (take i xs) ++ (f (get_or xs i d) ++ flat_map f (drop (suc i) xs))
+items_split f xs i d h =
+    ap (flat_map f)
+    (sym (take-append-drop (suc i) xs) ∙ ap (λ front. front ++ drop (suc i) xs) (take-suc xs i d h))
+    ∙ flat_map-append f (take i xs ++ get_or xs i d ∷ []) (drop (suc i) xs)
+    ∙ ap (λ text. text ++ flat_map f (drop (suc i) xs))
+    (flat_map-append f (take i xs) (get_or xs i d ∷ [])
+    ∙ ap (λ text. flat_map f (take i xs) ++ text) (append-nil (f (get_or xs i d))))
+    ∙ append_assoc (flat_map f (take i xs)) (f (get_or xs i d)) (flat_map f (drop (suc i) xs))
+
+-- a call that writes the items of a list stops within one
+pub writes_stopped_item : {A T E : Type 0} {a b c : Device} (f : A → List ℕ) (xs : List A) (i : ℕ) (d : A)
+    (r : Result T E) → IsErr r → i < length xs → Wrote a b (flat_map f (take i xs)) → Stopped b c (f (get_or xs i d))
+    → Writes a c (flat_map f xs) r
+writes_stopped_item {A} {T} {E} {a} {b} {c} f xs i d r failed l h k =
+    let P : List ℕ → Type 0 = λ text. Stopped a c text in
+    MatchResult-from_err r (λ _. Wrote a c (flat_map f xs)) (λ _. Stopped a c (flat_map f xs)) failed
+    (λ _. subst P (sym (items_split f xs i d l)) (stopped_then h (stopped_first (flat_map f (drop (suc i) xs)) k)))

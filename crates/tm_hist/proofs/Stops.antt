@@ -121,12 +121,12 @@ not_doomed (AbortedBy by status) = refl
 not_doomed Drained = refl
 
 -- the step of a core, by its move
-record Moved (k : Setting) (a : State) (c : ℕ) (o : Outcome) (next : State) : Type 0 where
+pub record Moved (k : Setting) (a : State) (c : ℕ) (o : Outcome) (next : State) : Type 0 where
   pub to : Next
   pub moves : after_step k a.memory (a.pending c) (a.cores c) o ≡ Some to
   pub is : state_with a c to ≡ next
 
-by_move : (k : Setting) (a : State) (c : ℕ) (o : Outcome) (next : State) (b : Bool) (x : Option Next)
+pub by_move : (k : Setting) (a : State) (c : ℕ) (o : Outcome) (next : State) (b : Bool) (x : Option Next)
     → after_step k a.memory (a.pending c) (a.cores c) o ≡ x →
     cond b (option_map (state_with a c) x) None ≡ Some next → Moved k a c o next
 by_move k a c o next false x moves e = cc

@@ -1,5 +1,5 @@
 -- What a step answers, under an event from outside of the program or under none.
-use Rattle.std.proofs.Common.{◌≡◌, ℕ, ◌<◌, true, false, cond, eqb, List, [], length, Option, Some, None, sym, ap, ◌∙◌}
+use Rattle.std.proofs.Common.{◌≡◌, ℕ, true, false, cond, eqb, List, [], ◌∷◌, Option, Some, None, refl, sym, ap, ◌∙◌}
 use Rattle.std.proofs.Common.{inl, inr, subst}
 use Rattle.std.proofs.lemmas.Option.{option_and_then_some, same_Some}
 use Rattle.ia_regs.specs.declared.Regs.{Regs}
@@ -12,16 +12,17 @@ use Rattle.tm_model.specs.declared.outcome.Event.TheVariants as event
 use Rattle.tm_model.specs.declared.outcome.Interference.{Interference}
 use Rattle.tm_model.specs.Isolated.{Body, isolated_body}
 use Rattle.tm_model.specs.declared.outcome.Outcome.{Outcome}
+use Rattle.tm_model.specs.declared.outcome.Outcome.TheVariants.{Plain, Loaded, Stopped, Idle, Begun, Inside, Committed}
+use Rattle.tm_model.specs.declared.outcome.Outcome.TheVariants.{Aborted, AbortedBy, Drained}
 use Rattle.tm_model.specs.Owed.{abort_by, depth_of, owed_outcome, owed_under}
-use Rattle.tm_model.specs.Runs.{IsOwedUnder, doomed_at_end, event_told}
+use Rattle.tm_model.specs.Runs.{IsOwedUnder, doomed_at_end, event_told, is_aborted_by}
 use Rattle.tm_model.specs.Setting.{Setting}
 use Rattle.tm_model.specs.Shown.{View, view_between, view_inside, view_midway, view_of, view_of_body, view_outside}
-use Rattle.tm_model.specs.State.{Closed, Core, Halted, Midway, Opened, State, opening_state, seen_by, seen_memory}
+use Rattle.tm_model.specs.State.{Closed, Core, Halted, Midway, Opened, Pending, State, opening_state}
 use Rattle.tm_core.specs.Theorem.{ShownMachine as Machine, StandsFor, TakesStep, TakesStepUnder, machine_setting}
-use Rattle.tm_core.specs.Theorem.{view_at}
 use Rattle.tm_model.proofs.Events.{no_event_told}
-use Rattle.tm_hist.proofs.Boards.{none_behind}
-use Rattle.tm_hist.specs.Board.{IsHistory, IsOwedNext, ShownBoard, TellsAsShown, TellsOf, board_setting}
+use Rattle.tm_hist.specs.Board.{IsHistory, IsOwedNext, ShownBoard, TellsAsShown, TellsOf, TellsWithPending}
+use Rattle.tm_hist.specs.Board.{board_setting}
 
 -- with no store pending, what is owed is owed on memory alone
 pub owed_alone : (event : Option Event) (k : Setting) (a : State) (d : ℕ → Option ℕ) (c : ℕ) → [] ≡ a.pending c
@@ -29,12 +30,7 @@ pub owed_alone : (event : Option Event) (k : Setting) (a : State) (d : ℕ → O
     ≡ owed_under event k a.memory [] (a.cores c) (d c)
 owed_alone event k a d c none = ap (λ q. owed_under event k a.memory q (a.cores c) (d c)) (sym none)
 
--- and what the core sees is memory
-pub shown_alone : (k : Setting) (a : State) (d : ℕ → Option ℕ) (c : ℕ) (v : View) → [] ≡ a.pending c
-    → view_of k (seen_by a c) (a.cores c) (d c) ≡ Some v → view_of k a.memory (a.cores c) (d c) ≡ Some v
-shown_alone k a d c v none e = ap (λ q. view_of k (seen_memory a.memory q) (a.cores c) (d c)) none ∙ e
-
--- a step under no event tells of none
+-- so a step under no event tells of none
 pub tells_none : (old new : Machine) (a : State) (d : ℕ → Option ℕ) (c : ℕ) (o : Outcome) → [] ≡ a.pending c
     → TakesStep old new a d c o → event_told o ≡ None
 tells_none old new a d c o none takes =
@@ -63,7 +59,7 @@ module _ (by : Interference) (k : Setting) (m : List ℕ) (o : Outcome) where
         | false ↦ λ e. subst Tells (same_Some (view_of_body s b) v e) owes
       ]
 
-  tells_shown : (x : Core) (dx : Option ℕ) (v : View) → view_of k m x dx ≡ Some v
+  pub tells_shown : (x : Core) (dx : Option ℕ) (v : View) → view_of k m x dx ≡ Some v
       → o ≡ owed_under (Some (event.Abort by)) k m [] x dx → Tells v
   tells_shown (Closed s) None v e owes =
       subst Tells (same_Some (view_outside Running s) v e) (none_told (Closed s) None owes)
@@ -81,35 +77,37 @@ module _ (by : Interference) (k : Setting) (m : List ℕ) (o : Outcome) where
       (λ b is e2. tells_inside s b v (owes ∙ ap (λ (x : Option Body). abort_by by (depth_of x)) is) e2)
 
 -- a step of a board's machine, from each state that it stands for
-abbrev Takes : Option Event → ShownBoard → Machine → ℕ → Outcome → Type 0
+abbrev pub Takes : Option Event → ShownBoard → Machine → ℕ → Outcome → Type 0
 Takes event b new c o =
     (a : State) (d : ℕ → Option ℕ) → StandsFor b.machine a d → TakesStepUnder event b.machine new a d c o
 
-pub tells_as_shown : (event : Event) (b : ShownBoard) (new : Machine) (c : ℕ) (o : Outcome) → IsHistory b
-    → c < length b.machine.views → Takes (Some event) b new c o →
-    TellsAsShown event (view_at b.machine c).mode o
-tells_as_shown (event.Abort by) b new c o h below takes =
-    let doom : ℕ → Option ℕ = doomed_at_end (board_setting b) (opening_state b.program) (λ _. None) b.history in
-    let k : Setting = machine_setting b.machine in
-    let none : [] ≡ h.end.pending c = none_behind b h c in
-    tells_shown by k h.end.memory o (h.end.cores c) (doom c) (view_at b.machine c)
-    (shown_alone k h.end doom c (view_at b.machine c) none (h.stands.each c below))
-    ((takes h.end doom h.stands).is_owed ∙ owed_alone (Some (event.Abort by)) k h.end doom c none)
-tells_as_shown event.Drain b new c o h below takes =
-    let doom : ℕ → Option ℕ = doomed_at_end (board_setting b) (opening_state b.program) (λ _. None) b.history in
-    let k : Setting = machine_setting b.machine in
-    ap event_told
-    ((takes h.end doom h.stands).is_owed ∙ owed_alone (Some event.Drain) k h.end doom c (none_behind b h c))
-    ∙ no_event_told k h.end.memory (h.end.cores c) (doom c)
+-- what is told where no abort from outside of the program is
+pub tells_no_abort : (event : Option Event) (o : Outcome) → is_aborted_by o ≡ false → TellsOf event o
+tells_no_abort event (AbortedBy by status) none = absurd (cc)
+tells_no_abort event Drained none = inr (inr refl)
+tells_no_abort event Plain none = inl refl
+tells_no_abort event Loaded none = inl refl
+tells_no_abort event (Stopped stop) none = inl refl
+tells_no_abort event Idle none = inl refl
+tells_no_abort event Begun none = inl refl
+tells_no_abort event Inside none = inl refl
+tells_no_abort event Committed none = inl refl
+tells_no_abort event (Aborted status) none = inl refl
 
--- so it tells of that event, or of none
-pub tells_of : (event : Event) (shown : CoreState) (o : Outcome) → TellsAsShown event shown o → TellsOf (Some event) o
-tells_of (event.Abort by) (Open depth) o h = inr (ap event_told h)
-tells_of (event.Abort by) Running o h = inl h
-tells_of (event.Abort by) Mid o h = inl h
-tells_of (event.Abort by) (Condemned depth) o h = inl h
-tells_of (event.Abort by) (AtStop why) o h = inl h
-tells_of event.Drain shown o h = inl h
+-- so it tells of that event, or of none, or it is a drain
+pub tells_of : (event : Event) (pending : Pending) (shown : CoreState) (o : Outcome)
+    → TellsWithPending event pending shown o → TellsOf (Some event) o
+tells_of (event.Abort by) pending (Open depth) o h = inr (inl (ap event_told h))
+tells_of event.Drain (oldest ∷ younger) shown o h = inr (inr h)
+tells_of event.Drain [] shown o h = inl h
+tells_of (event.Abort by) [] Running o h = inl h
+tells_of (event.Abort by) [] Mid o h = inl h
+tells_of (event.Abort by) [] (Condemned depth) o h = inl h
+tells_of (event.Abort by) [] (AtStop why) o h = inl h
+tells_of (event.Abort by) (oldest ∷ younger) Running o h = tells_no_abort (Some (event.Abort by)) o h
+tells_of (event.Abort by) (oldest ∷ younger) Mid o h = tells_no_abort (Some (event.Abort by)) o h
+tells_of (event.Abort by) (oldest ∷ younger) (Condemned depth) o h = tells_no_abort (Some (event.Abort by)) o h
+tells_of (event.Abort by) (oldest ∷ younger) (AtStop why) o h = tells_no_abort (Some (event.Abort by)) o h
 
 -- what it answers is owed behind the board's history
 pub owed_behind : (event : Option Event) (b : ShownBoard) (new : Machine) (c : ℕ) (o : Outcome) → IsHistory b

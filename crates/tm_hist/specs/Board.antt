@@ -1,6 +1,6 @@
 -- A machine with the history of its steps.
-use Rattle.std.specs.Prelude.{◌≡◌, ◌≢◌, ◌⊎◌, ℕ, ◌≤◌, Bool, ◌||◌, List, [], ◌++◌, All, Option, Some, None, drop, length}
-use Rattle.std.specs.Prelude.{nat_lt, refl}
+use Rattle.std.specs.Prelude.{◌≡◌, ◌≢◌, ◌⊎◌, ℕ, ◌≤◌, Bool, ◌||◌, List, [], ◌∷◌, ◌++◌, All, Option, Some, None, drop}
+use Rattle.std.specs.Prelude.{false, length, nat_lt, refl}
 use Rattle.std.specs.Coded.{Coded, code_by, coded×, coded_ℕ, coded_list}
 use Rattle.ia_image.specs.Program.{ProgramValue as Program}
 use Rattle.tm_rule.specs.declared.kinds.Stop.{Stop}
@@ -8,13 +8,13 @@ use Rattle.tm_core.specs.declared.limits.Limits.{Limits}
 use Rattle.tm_model.specs.declared.outcome.CoreState.{CoreState}
 use Rattle.tm_model.specs.declared.outcome.CoreState.TheVariants as state
 use Rattle.tm_model.specs.declared.outcome.Outcome.{Outcome}
-use Rattle.tm_model.specs.declared.outcome.Outcome.TheVariants.{Idle}
+use Rattle.tm_model.specs.declared.outcome.Outcome.TheVariants.{Drained, Idle}
 use Rattle.tm_model.specs.declared.outcome.Event.{Event}
 use Rattle.tm_model.specs.declared.outcome.Event.TheVariants as event
 use Rattle.tm_model.specs.Owed.{abort_by}
-use Rattle.tm_model.specs.Runs.{AreOwed, IsOwedUnder, TellNoAbort, doomed_at_end, event_told}
+use Rattle.tm_model.specs.Runs.{AreOwed, IsOwedUnder, TellNoAbort, doomed_at_end, event_told, is_aborted_by}
 use Rattle.tm_model.specs.Setting.{Setting, program_setting}
-use Rattle.tm_model.specs.State.{State, opening_state}
+use Rattle.tm_model.specs.State.{Pending, State, opening_state}
 use Rattle.tm_model.specs.Steps.{run}
 use Rattle.tm_core.specs.Theorem.{IsRun, ShownMachine as Machine, StandsFor, machine_setting}
 use Rattle.tm_hist.specs.Machine.{shown_state}
@@ -56,9 +56,10 @@ board_code limits outcome machine =
     })
     (λ _. refl)
 
--- the rules of its program's machine, which has no store buffers
+-- the rules of its program's machine
 abbrev pub board_setting : ShownBoard → Setting
-board_setting board = program_setting board.program board.limits.read_lines board.limits.write_lines 0
+board_setting board =
+    program_setting board.program board.limits.read_lines board.limits.write_lines board.limits.stores
 
 -- the machine is the run of the history from the program's opening state, and each outcome of the history is the owed
 -- one
@@ -122,15 +123,23 @@ IsOwedNext event board core outcome =
     IsOwedUnder event (board_setting board) end
     (doomed_at_end (board_setting board) (opening_state board.program) (λ _. None) board.history) core outcome
 
--- The same by what the core showed: its transaction is aborted at the depth that it had, and anywhere else nothing is
--- told of the event (SDM volume 1, 16.3.8), nor of a drain, since no store is pending.
+-- The same by what a core showed that had no store pending: its transaction is aborted at the depth that it had, and
+-- anywhere else nothing is told of the event (SDM volume 1, 16.3.8), nor of a drain.
 abbrev pub TellsAsShown : Event → CoreState → Outcome → Type 0
 TellsAsShown (event.Abort by) (state.Open depth) outcome = outcome ≡ abort_by by depth
 TellsAsShown event state outcome = event_told outcome ≡ None
 
--- the outcome tells of this event, or of none
+-- The same of a core with these stores pending: a drain brings the oldest of them to memory, whatever the core is at;
+-- where none is aborted the step is that under no event, which tells of a drain where it waits.
+abbrev pub TellsWithPending : Event → Pending → CoreState → Outcome → Type 0
+TellsWithPending (event.Abort by) pending (state.Open depth) outcome = outcome ≡ abort_by by depth
+TellsWithPending event.Drain (oldest ∷ younger) state outcome = outcome ≡ Drained
+TellsWithPending event [] state outcome = event_told outcome ≡ None
+TellsWithPending event (oldest ∷ younger) state outcome = is_aborted_by outcome ≡ false
+
+-- the outcome tells of this event, or of none, or is a drain for which the step waits
 abbrev pub TellsOf : Option Event → Outcome → Type 0
-TellsOf event outcome = (event_told outcome ≡ None) ⊎ (event_told outcome ≡ event)
+TellsOf event outcome = (event_told outcome ≡ None) ⊎ ((event_told outcome ≡ event) ⊎ (outcome ≡ Drained))
 
 -- the pairs of a board's history behind those of an earlier one's
 abbrev pub pairs_behind : ShownBoard → ShownBoard → List (ℕ × Outcome)

@@ -1,7 +1,7 @@
 -- The lines that are printed of a run: state lines, outcome lines and dumps of memory (docs/FORMATS.md, "Printed
 -- lines").
-use Rattle.std.specs.Prelude.{ℕ, ◌+◌, ◌*◌, ◌/◌, ◌%◌, ◌^◌, List, ◌++◌, codes, drop, take, length, slice_index, Option}
-use Rattle.std.specs.Prelude.{Some, None}
+use Rattle.std.specs.Prelude.{ℕ, ◌+◌, ◌*◌, ◌/◌, ◌%◌, ◌^◌, List, [], ◌∷◌, ◌++◌, codes, drop, take, length, slice_index}
+use Rattle.std.specs.Prelude.{Option, Some, None, if◌then◌else◌, nat_lt}
 use Rattle.std.specs.List.{flat_map, range_with_len}
 use Rattle.std.specs.Int.{w16, to_be_bytes}
 use Rattle.hex.specs.Hex.{encode_lower}
@@ -18,7 +18,10 @@ use Rattle.tm_model.specs.declared.outcome.CoreState.TheVariants as state
 use Rattle.tm_model.specs.declared.outcome.Outcome.TheVariants as outcome
 use Rattle.tm_model.specs.declared.outcome.Interference.{Interference}
 use Rattle.tm_model.specs.declared.outcome.Interference.TheVariants as interference
-use Rattle.tm_core.specs.Theorem.{ShownMachine}
+use Rattle.ia_exec.specs.declared.done.Store.{Store}
+use Rattle.ia_word.specs.declared.width.Width.{Width}
+use Rattle.ia_word.specs.declared.width.Width.TheVariants.{B, D}
+use Rattle.tm_core.specs.Theorem.{ShownMachine, pending_at}
 use Rattle.tm_hist.specs.Machine.{core_count, shown_regs, shown_state}
 
 -- the sum of CF 001h, PF 004h, AF 010h, ZF 040h, SF 080h and OF 800h, each where it is set
@@ -69,8 +72,32 @@ core_line core state regs =
 abbrev pub core_text : ShownMachine → ℕ → List ℕ
 core_text machine core = core_line core (shown_state machine core) (shown_regs machine core)
 
+abbrev pub cores_text : ShownMachine → List ℕ
+cores_text machine = flat_map (core_text machine) (range_with_len 0 (core_count machine))
+
+-- what is stored, in as many digits as it is wide
+abbrev pub value_text : Width → ℕ → List ℕ
+value_text B value = encode_lower (value % 256 ∷ [])
+value_text D value = eight_digits value
+
+-- the line of a store of a core that is pending: its address and its value
+unfoldable pub pending_line : ℕ → Store → List ℕ
+pending_line core store =
+    codes "pending " ++ number_text core ++ codes " " ++ eight_digits store.addr ++ codes " "
+    ++ value_text store.width store.value ++ line_end
+
+-- the lines of the stores of a core of a machine that are pending, the oldest first, and those of all its cores; none
+-- where there is no such core
+abbrev pub pending_text : ShownMachine → ℕ → List ℕ
+pending_text machine core =
+    if nat_lt core (core_count machine) then flat_map (pending_line core) (pending_at machine core) else []
+
+abbrev pub pendings_text : ShownMachine → List ℕ
+pendings_text machine = flat_map (pending_text machine) (range_with_len 0 (core_count machine))
+
+-- the state of a machine: the lines of its cores, and then those of what is pending
 abbrev pub state_text : ShownMachine → List ℕ
-state_text machine = flat_map (core_text machine) (range_with_len 0 (core_count machine))
+state_text machine = cores_text machine ++ pendings_text machine
 
 -- what aborted a transaction from outside of the program
 abbrev pub interference_word : Interference → List ℕ

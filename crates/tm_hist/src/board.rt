@@ -3,16 +3,17 @@
 //! [`Board::new`] tests the limit on steps, makes the machine, which tests its own limits, and then asks for the
 //! room of the whole history and for a copy of the program, so that no step takes memory. A step asks whether there
 //! is such a core before it asks whether the history is full. How its pairs are kept stands in `pair`, and the run
-//! of a history on one memory in `one_memory`.
+//! of a history on one memory in `store_buffers`.
 
 ghost use Rattle.std.specs.Prelude.{◌≡◌, ◌↔◌, ◌⊎◌, ◌<◌, ◌≤◌, ℕ, [], ◌∷◌, ◌++◌, Err, IfErr, IfOk, IsTrue, OnErr};
 ghost use Rattle.std.specs.Prelude.{◌-◌, IfSome, None, Some, false, length, min, true};
 ghost use Rattle.std.specs.List.{slice_get};
 ghost use Rattle.tm_core.specs.AtOnce.{IsDoneOnRegisters};
 ghost use Rattle.tm_core.specs.Machine.{bad_limits};
-ghost use Rattle.tm_model.specs.Runs.{event_told, picks_of};
+ghost use Rattle.tm_core.specs.Theorem.{pending_at};
+ghost use Rattle.tm_model.specs.Runs.{event_told, is_aborted_by, picks_of};
 ghost use Rattle.tm_hist.specs.Board.{AreSteps, IsFull, IsHistory, IsNew, IsOwedNext, IsStopped, SameBoard};
-ghost use Rattle.tm_hist.specs.Board.{TellsAsShown, TellsOf, bad_limit};
+ghost use Rattle.tm_hist.specs.Board.{TellsOf, TellsWithPending, bad_limit};
 ghost use Rattle.tm_hist.specs.BoardFaults.{board_code, step_code};
 ghost use Rattle.tm_hist.specs.History.{pairs_of};
 ghost use Rattle.tm_hist.specs.Machine.{shown_state};
@@ -20,9 +21,9 @@ ghost use Rattle.tm_hist.specs.Replay.{Replays};
 
 use crate::history::History;
 use crate::history_memory::HistoryMemory;
-use crate::one_memory::serial;
 use crate::pair::Pair;
 use crate::replay::{Serial, SerialFault};
+use crate::store_buffers::serial_with;
 use crate::whole::{push_plain, push_transaction};
 use ia_image::Program;
 use std::alloc::Global;
@@ -37,7 +38,7 @@ pub enum BoardFault {
     /// The limit on steps is not 1 to 16,777,216.
     #[error("BadLimit")]
     BadLimit,
-    /// A limit on lines is not 1 to 4096.
+    /// A limit on lines is not 1 to 4096, or that on pending stores not 0 to 64.
     #[error("BadLimits")]
     BadLimits,
     /// There is no memory for the machine, as the machine says.
@@ -147,7 +148,8 @@ impl Board {
     /// A board before its first step, whose history has room for as many steps as the limit says.
     ///
     /// In this order: [`BoardFault::BadLimit`], where the limit is not 1 to 16,777,216; [`BoardFault::BadLimits`],
-    /// where a limit on lines is not 1 to 4096; [`BoardFault::NoMachine`] and [`BoardFault::NoMemory`].
+    /// where a limit on lines is not 1 to 4096 or that on pending stores not 0 to 64; [`BoardFault::NoMachine`] and
+    /// [`BoardFault::NoMemory`].
     pub fn new(
         alloc: Global,
         program: &Program,
@@ -190,7 +192,8 @@ impl Board {
         self.made.clear();
     }
 
-    /// One step of a core, which is one more pair of the history. The program alone aborts transactions in it.
+    /// One step of a core, which is one more pair of the history. The program alone aborts transactions in it. A step
+    /// that waits for what is pending of the core is the drain of its oldest store.
     ///
     /// [`StepFault::NoSuchCore`], where the program has no core of this number; for one that it has,
     /// [`StepFault::LimitReached`] exactly where the history is full. Then the board is as before. Takes no memory.
@@ -202,7 +205,8 @@ impl Board {
         ensures same { SameBoard self.old self.new }
         ensures ok { IfOk result (λ outcome. self.new.history ≡ self.old.history ++ (core, outcome) ∷ []) }
         ensures owed { IfOk result (λ outcome. IsOwedNext None self.old core outcome) }
-        ensures alone { IfOk result (λ outcome. event_told outcome ≡ None) }
+        ensures no_abort { IfOk result (λ outcome. is_aborted_by outcome ≡ false) }
+        ensures alone { self.old.machine.store_buffer ≡ 0 → IfOk result (λ outcome. event_told outcome ≡ None) }
         ensures stops { (k : ℕ) → IsStopped self.old k → IsStopped self.new k }
         ensures idle { IfOk result (λ outcome. (outcome ≡ Outcome.Idle) ↔ IsStopped self.old core) }
         ensures err { OnErr result (self.new ≡ self.old) }
@@ -223,8 +227,9 @@ impl Board {
     }
 
     /// One step of a core under an event from outside of the program, which is one more pair of the history: where the
-    /// core is in a transaction that is not condemned, the event aborts it, whatever its next instruction. Anywhere
-    /// else the event changes nothing, and the step is that of [`Board::step`] (SDM volume 1, 16.3.8).
+    /// core is in a transaction that is not condemned, `Event::Abort` aborts it, whatever its next instruction (SDM
+    /// volume 1, 16.3.8); where a store of the core is pending, `Event::Drain` writes the oldest to memory. Anywhere
+    /// else the event changes nothing, and the step is that of [`Board::step`].
     ///
     /// [`StepFault::NoSuchCore`], where the program has no core of this number; for one that it has,
     /// [`StepFault::LimitReached`] exactly where the history is full. Then the board is as before. Takes no memory.
@@ -235,7 +240,8 @@ impl Board {
         ensures same { SameBoard self.old self.new }
         ensures ok { IfOk result (λ outcome. self.new.history ≡ self.old.history ++ (core, outcome) ∷ []) }
         ensures owed { IfOk result (λ outcome. IsOwedNext (Some event) self.old core outcome) }
-        ensures told { IfOk result (λ outcome. TellsAsShown event (shown_state self.old.machine core) outcome) }
+        ensures told { IfOk result (λ outcome. TellsWithPending event (pending_at self.old.machine core)
+            (shown_state self.old.machine core) outcome) }
         ensures stops { (k : ℕ) → IsStopped self.old k → IsStopped self.new k }
         ensures idle { IfOk result (λ outcome. (outcome ≡ Outcome.Idle) ↔ IsStopped self.old core) }
         ensures err { OnErr result (self.new ≡ self.old) }
@@ -258,7 +264,7 @@ impl Board {
     /// The step that a pick tells of: [`Board::step_under`] its event where it has one, else [`Board::step`], with the
     /// faults of these.
     #[inline(always)]
-    #[tactic(auto, using(crate::proofs::UnderEvents::tells_of))]
+    #[tactic(auto, using(crate::proofs::UnderEvents::tells_of, crate::proofs::UnderEvents::tells_no_abort))]
     pub fn step_by(&mut self, pick: Pick) -> Result<Outcome, StepFault>
         ensures none { result ≡ Err StepFault.NoSuchCore ↔ (length self.old.program.entries ≤ pick.core) }
         ensures full { result ≡ Err StepFault.LimitReached
@@ -365,7 +371,7 @@ impl Board {
         &self.program
     }
 
-    /// The limits on the lines of a transaction.
+    /// The limits on the lines of a transaction and on the pending stores of a core.
     pub fn limits(&self) -> Limits
         ensures { result ≡ self.now.limits }
     {
@@ -448,15 +454,15 @@ impl Board {
         let _limit = self.limit;
     }
 
-    /// The run of the history on one flat memory ([`serial`]), which is never refused but for want of memory, and
-    /// which ends with the machine's memory, and with each core's registers before its open transaction, and its
-    /// stop.
+    /// The run of the history on one flat memory ([`serial_with`]), which is never refused but for want of memory, and
+    /// which ends with the machine's memory, and with each core's registers before its open transaction, its stop, and
+    /// its stores that are pending.
     ///
-    /// [`SerialFault::NoMemory`], where memory or the list of cores found no memory.
+    /// [`SerialFault::NoMemory`], where memory, the list of cores or their queues found no memory.
     pub fn replay(&self, alloc: Global) -> Result<Serial, SerialFault>
         ensures ok { IfOk result (λ s. Replays self.now s) }
         ensures err { IfErr result (λ fault. fault ≡ SerialFault.NoMemory) }
     {
-        serial(alloc, &self.program, self.history())
+        serial_with(alloc, &self.program, self.limits.stores, self.history())
     }
 }

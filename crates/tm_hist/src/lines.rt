@@ -1,22 +1,27 @@
-//! The lines that are printed of a run: of an outcome, of the cores' states, and of bytes in memory.
+//! The lines that are printed of a run: of an outcome, of the cores' states and their pending stores, and of bytes in
+//! memory.
 //!
 //! Each line is put together in a row of fixed room and handed to the device as one, so that printing takes no
 //! memory; the first that the device refuses ends the call. Their forms are those of docs/FORMATS.md. Which cores
 //! and bytes are printed, and in which order with other text, is for the caller to say.
 
 ghost use Rattle.std.specs.Prelude.{◌≡◌, ◌+◌, ◌-◌, ◌*◌, ◌%◌, ◌^◌, ◌≤◌, ◌<◌, ◌++◌, length};
+ghost use Rattle.std.specs.List.{flat_map};
 ghost use Rattle.arrayvec.specs.ArrayVec.{array_vec_len};
 ghost use Rattle.text_out.specs.Writing.{Writes};
-ghost use Rattle.tm_hist.specs.Lines.{core_line, core_text, dump_line, dump_lines, flag_sum, flags_text};
-ghost use Rattle.tm_hist.specs.Lines.{interference_word, outcome_line, register_text, regs_text, state_text};
-ghost use Rattle.tm_hist.specs.Lines.{state_word, status_of, step_text, stop_word};
+ghost use Rattle.tm_hist.specs.Lines.{core_line, core_text, cores_text, dump_line, dump_lines, flag_sum, flags_text};
+ghost use Rattle.tm_hist.specs.Lines.{interference_word, outcome_line, pending_line, pending_text, pendings_text};
+ghost use Rattle.tm_hist.specs.Lines.{register_text, regs_text, state_text, state_word, status_of, step_text, stop_word};
+ghost use Rattle.tm_hist.specs.Lines.{value_text};
 ghost use Rattle.tm_hist.specs.Machine.{core_count, depth_of};
 
+use ia_exec::Store;
 use ia_regs::{Flags, Regs};
+use ia_word::Width;
 use text_out::page::{push, push_bytes, push_eight};
 use text_out::text_line::{TextLine, push_number};
 use text_out::{Out, WriteFault};
-use tm_core::Machine;
+use tm_core::{Machine, NoSuchCore};
 use tm_model::{CoreState, Interference, Outcome};
 use tm_rule::Stop;
 
@@ -199,16 +204,92 @@ pub fn write_core<O: Out>(machine: &Machine, core: u8, out: &mut O) -> Result<()
     Ok(())
 }
 
-/// Writes the state lines of all cores, in order.
-///
-/// [`WriteFault::Write`], where the device failed: a beginning of the lines was written.
-pub fn write_state<O: Out>(machine: &Machine, out: &mut O) -> Result<(), WriteFault>
-    ensures { Writes (O.device out.old) (O.device out.new) (state_text machine.now) result }
+// The state lines of all cores.
+fn write_cores<O: Out>(machine: &Machine, out: &mut O) -> Result<(), WriteFault>
+    ensures { Writes (O.device out.old) (O.device out.new) (cores_text machine.now) result }
 {
     for core in 0..machine.cores() {
         write_core(machine, core, out)?;
     }
     Ok(())
+}
+
+// What is stored, in as many digits as it is wide.
+fn push_value(row: &mut TextLine, width: Width, value: u32)
+    requires { array_vec_len row.old + 8 ≤ 160 }
+    ensures text { row.new.items ≡ row.old.items ++ value_text width value }
+    ensures len { array_vec_len row.new ≤ array_vec_len row.old + 8 }
+{
+    match width {
+        Width::B => push_bytes(row, &[(value % 256) as u8]),
+        Width::D => push_eight(row, value),
+    }
+}
+
+#[tactic(auto, unfolding(crate::specs::Lines::pending_line))]
+fn push_pending(row: &mut TextLine, core: u8, store: &Store)
+    requires { array_vec_len row.old ≡ 0 }
+    ensures { row.new.items ≡ row.old.items ++ pending_line core store.now }
+{
+    push(row, b"pending ");
+    push_number(row, core);
+    push(row, b" ");
+    push_eight(row, store.addr);
+    push(row, b" ");
+    push_value(row, store.width, store.value);
+    push(row, b"\n");
+}
+
+// The line of a store of a core that is pending.
+fn write_store<O: Out>(core: u8, store: &Store, out: &mut O) -> Result<(), WriteFault>
+    ensures { Writes (O.device out.old) (O.device out.new) (pending_line core store.now) result }
+{
+    let mut row = TextLine::new();
+    push_pending(&mut row, core, store);
+    out.put(row.as_slice())?;
+    Ok(())
+}
+
+// The lines of stores of a core that are pending.
+fn write_stores<O: Out>(core: u8, stores: &[Store], out: &mut O) -> Result<(), WriteFault>
+    ensures { Writes (O.device out.old) (O.device out.new) (flat_map (pending_line core) stores.now) result }
+{
+    for store in stores {
+        write_store(core, store, out)?;
+    }
+    Ok(())
+}
+
+/// Writes a line for each store of a core that is pending, the oldest first, and nothing where there is no such core.
+///
+/// [`WriteFault::Write`], where the device failed: a beginning of the lines was written.
+pub fn write_pending<O: Out>(machine: &Machine, core: u8, out: &mut O) -> Result<(), WriteFault>
+    ensures { Writes (O.device out.old) (O.device out.new) (pending_text machine.now core) result }
+{
+    match machine.pending(core) {
+        Ok(stores) => write_stores(core, stores, out),
+        Err(NoSuchCore) => Ok(()),
+    }
+}
+
+// The lines of all stores that are pending, a core behind the other.
+fn write_pendings<O: Out>(machine: &Machine, out: &mut O) -> Result<(), WriteFault>
+    ensures { Writes (O.device out.old) (O.device out.new) (pendings_text machine.now) result }
+{
+    for core in 0..machine.cores() {
+        write_pending(machine, core, out)?;
+    }
+    Ok(())
+}
+
+/// Writes the state lines of all cores, in order, and then a line for each store that is pending.
+///
+/// [`WriteFault::Write`], where the device failed: a beginning of the lines was written.
+pub fn write_state<O: Out>(machine: &Machine, out: &mut O) -> Result<(), WriteFault>
+    ensures { Writes (O.device out.old) (O.device out.new) (state_text machine.now) result }
+{
+    write_cores(machine, out)?;
+    write_pendings(machine, out)
 }
 
 /// Adds the core and what its step was, as an outcome line begins, to an empty row.

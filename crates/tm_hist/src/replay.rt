@@ -1,7 +1,8 @@
 //! What a serial run answers: a [`Serial`], or the [`SerialFault`] for which there is none.
 //!
 //! Of a core that is in a transaction at the end, its registers are those before the XBEGIN, as nothing of its body
-//! was run. Bytes of open transactions are nowhere in memory. The run itself stands in `one_memory`.
+//! was run. Bytes of open transactions are nowhere in memory. The run itself stands in `one_memory`, and with a queue
+//! of pending stores a core in `store_buffers`.
 
 ghost use Rattle.std.specs.Prelude.{◌≡◌, ◌↔◌, ◌<◌, length, IfOk, IsOk};
 ghost use Rattle.tm_hist.specs.Serial.{serial_code};
@@ -21,7 +22,7 @@ pub enum SerialFault {
     /// The pair at this index is the first at which the list is no run.
     #[error("NotARun")]
     NotARun(usize),
-    /// Memory or the list of cores found no memory.
+    /// Memory, the list of cores or their queues of pending stores found no memory.
     #[error("NoMemory")]
     NoMemory,
 }

@@ -8,6 +8,7 @@ use tm_hist::Board;
 const LIMITS: Limits = Limits {
     read_lines: 8,
     write_lines: 8,
+    stores: 0,
 };
 
 const PROGRAMS: u32 = 100_000;

@@ -121,6 +121,7 @@ fn limits_of(words: &str) -> Option<Limits> {
     Some(Limits {
         read_lines: reads.parse::<u32>().ok()?,
         write_lines: writes.parse::<u32>().ok()?,
+        stores: 0,
     })
 }
 

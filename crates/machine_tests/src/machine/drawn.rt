@@ -4,9 +4,11 @@
 use super::program;
 use super::whole::made_at_once;
 use ia_image::Program;
+use ia_regs::Regs;
 use std::alloc::Global;
 use std::process::Abort;
-use tm_core::Limits;
+use tm_core::{Limits, Machine};
+use tm_model::CoreState;
 
 /// What programs are drawn from, in hex: instructions on registers, loads and stores on two lines and across their
 /// border, some of which overlap, pushes, pops, calls and jumps; and some that are no row or end a transaction: bytes,
@@ -115,6 +117,19 @@ fn steps_of(rt: &impl Abort, alloc: Global, draw: &mut Draw) -> Vec<u8> {
     steps
 }
 
+/// Limits on lines, and so many stores of a core pending.
+fn limits_of(draw: &mut Draw, stores: u32) -> Limits {
+    let (read_lines, write_lines) = match LIMITS.get(draw.below(4) as usize) {
+        Some(limits) => *limits,
+        None => (512, 512),
+    };
+    Limits {
+        read_lines,
+        write_lines,
+        stores,
+    }
+}
+
 #[test]
 fn drawn_steps_at_once_are_the_steps(rt: HostRuntime) {
     let mut draw = Draw { state: 7 };
@@ -122,16 +137,67 @@ fn drawn_steps_at_once_are_the_steps(rt: HostRuntime) {
     for _ in 0..200u32 {
         let program = program_of(&rt, rt.alloc(), &mut draw);
         let steps = steps_of(&rt, rt.alloc(), &mut draw);
-        let (read_lines, write_lines) = match LIMITS.get(draw.below(4) as usize) {
-            Some(limits) => *limits,
-            None => (512, 512),
-        };
-        let limits = Limits {
-            read_lines,
-            write_lines,
-        };
+        let limits = limits_of(&mut draw, 0);
         let made = made_at_once(&rt, rt.alloc(), &program, limits, steps.as_slice());
         transactions = transactions.saturating_add(made.transactions);
     }
     assert!(rt; transactions >= 40, "{transactions} transactions");
+}
+
+// While stores may be pending, only steps on registers are made at once.
+#[test]
+fn drawn_steps_at_once_are_the_steps_with_store_buffers(rt: HostRuntime) {
+    let mut draw = Draw { state: 11 };
+    let mut on_registers = 0u32;
+    for _ in 0..60u32 {
+        let program = program_of(&rt, rt.alloc(), &mut draw);
+        let steps = steps_of(&rt, rt.alloc(), &mut draw);
+        let stores = draw.below(4).saturating_add(1);
+        let limits = limits_of(&mut draw, stores);
+        let made = made_at_once(&rt, rt.alloc(), &program, limits, steps.as_slice());
+        assert_eq!(rt; made.transactions, 0);
+        on_registers = on_registers.saturating_add(made.on_registers);
+    }
+    assert!(rt; on_registers >= 40, "{on_registers} steps");
+}
+
+/// What a core alone ends with where it stops: the bytes that it stored, and its registers.
+fn ended(
+    rt: &impl Abort,
+    alloc: Global,
+    program: &Program,
+    limits: Limits,
+) -> Option<(Vec<u8>, Regs)> {
+    let mut machine: Machine = Machine::new(alloc, program, limits).expect(rt, "makes");
+    let _made = machine.steps_alone(0, 400);
+    match (machine.state(0), machine.regs(0)) {
+        (Ok(CoreState::Stopped(_)), Ok(regs)) => {
+            let bytes = Vec::from_slice(alloc, machine.view()).expect(rt, "memory");
+            Some((bytes, regs))
+        }
+        _ => None,
+    }
+}
+
+// Nobody but other cores sees that stores are pending: a core alone ends as without.
+#[test]
+fn a_core_alone_ends_as_without_a_store_buffer(rt: HostRuntime) {
+    let mut draw = Draw { state: 13 };
+    let mut stopped = 0u32;
+    for _ in 0..60u32 {
+        let program = program_of(&rt, rt.alloc(), &mut draw);
+        let stores = draw.below(4).saturating_add(1);
+        let limits = limits_of(&mut draw, stores);
+        let without = Limits {
+            stores: 0,
+            ..limits
+        };
+        let buffered = ended(&rt, rt.alloc(), &program, limits);
+        let at_once = ended(&rt, rt.alloc(), &program, without);
+        if let (Some((bytes, regs)), Some((others, same))) = (buffered, at_once) {
+            assert!(rt; bytes == others && regs == same, "with room for {stores}");
+            stopped = stopped.saturating_add(1);
+        }
+    }
+    assert!(rt; stopped >= 40, "{stopped} stopped");
 }

@@ -2,12 +2,13 @@
 
 use super::program;
 use tm_core::{Limits, Machine, MachineFault, NoSuchCore, RunFault};
-use tm_model::CoreState;
+use tm_model::{CoreState, Pick};
 use tm_sets::Kind;
 
 const LIMITS: Limits = Limits {
     read_lines: 512,
     write_lines: 512,
+    stores: 0,
 };
 
 #[test]
@@ -44,4 +45,41 @@ fn cores_that_there_are_not(rt: HostRuntime) {
         ),
         (42, 42, 43)
     );
+}
+
+#[test]
+fn stores_of_cores_that_there_are_not(rt: HostRuntime) {
+    let program = program(&rt, rt.alloc(), &[0xf4], &[0x100]);
+    let mut machine: Machine = Machine::new(rt.alloc(), &program, LIMITS).expect(&rt, "makes");
+    assert_eq!(rt; machine.hit_by_drain(0, 0), Ok(None));
+    assert_eq!(rt; machine.hit_by_drain(0, 1), Err(NoSuchCore));
+    assert_eq!(rt; machine.hit_by_drain(1, 0), Err(NoSuchCore));
+    let pick = Pick {
+        core: 1,
+        event: None,
+    };
+    assert_eq!(rt; machine.take(pick), Err(NoSuchCore));
+    assert!(rt; machine.pending(0) == Ok([].as_slice()));
+    assert!(rt; machine.pending(1) == Err(NoSuchCore));
+}
+
+#[test]
+fn stores_that_there_cannot_be(rt: HostRuntime) {
+    let program = program(&rt, rt.alloc(), &[0xf4], &[0x100]);
+    for (stores, refused) in [(0, false), (64, false), (65, true), (u32::MAX, true)] {
+        let limits = Limits { stores, ..LIMITS };
+        match Machine::new(rt.alloc(), &program, limits) {
+            Ok(machine) => {
+                assert!(&rt; !refused, "{stores} stores");
+                assert_eq!(&rt; u32::from(machine.stores()), stores);
+                if machine.stores() == 0 {
+                    machine.nothing_pending();
+                }
+            }
+            Err(fault) => assert!(&rt;
+                refused && fault == MachineFault::BadLimits,
+                "{stores} stores"
+            ),
+        }
+    }
 }

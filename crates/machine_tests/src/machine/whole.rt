@@ -84,6 +84,7 @@ fn alike(rt: &impl Abort, alloc: Global, one: &Machine, other: &Machine) {
         assert_eq!(rt; one.state(core), other.state(core));
         assert!(rt; one.regs(core) == other.regs(core));
         assert!(rt; one.base_regs(core) == other.base_regs(core));
+        assert!(rt; one.pending(core) == other.pending(core));
         for kind in [Kind::Read, Kind::Write] {
             let lines = one.sets(alloc, core, kind).expect(rt, "lines");
             let others = other.sets(alloc, core, kind).expect(rt, "lines");

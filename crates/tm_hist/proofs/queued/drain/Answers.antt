@@ -1,4 +1,4 @@
-use Rattle.std.proofs.Common.{◌≡◌, ◌∙◌, ap, false, length, sym, true}
+use Rattle.std.proofs.Common.{◌∙◌, ap, length, sym}
 use Rattle.std.specs.Prelude.{◌==◌}
 use Rattle.tm_hist.specs.Serial.{core_of}
 use Rattle.tm_hist.proofs.QueueSteps.{drains_none, drains_one, oldest_lies, rest_lies}

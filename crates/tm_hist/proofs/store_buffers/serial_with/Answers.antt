@@ -1,4 +1,4 @@
-use Rattle.std.proofs.Common.{◌≡◌, ◌⊎◌, List, ◌++◌, length, map, take, drop, sym, ◌∙◌, ap, subst, inr}
+use Rattle.std.proofs.Common.{◌≡◌, ◌⊎◌, ◌++◌, length, map, take, drop, sym, ◌∙◌, ap, subst, inr}
 use Rattle.std.specs.Prelude.{IfErr, IfOk}
 use Rattle.std.specs.List.{AllByRecursion, range_with_len}
 use Rattle.ia_image.specs.Program.{ProgramValue as Program}

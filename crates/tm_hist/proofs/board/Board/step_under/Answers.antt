@@ -2,15 +2,15 @@ use Rattle.std.proofs.Common.{◌≡◌, ◌∙◌, ap, map, None, Some, refl, s
 use Rattle.std.specs.Prelude.{◌↔◌}
 use Rattle.tm_model.specs.Runs.{doomed_at_end}
 use Rattle.tm_model.specs.State.{opening_state}
-use Rattle.tm_core.specs.Theorem.{machine_setting}
+use Rattle.tm_core.specs.Theorem.{machine_setting, pending_at}
 use Rattle.tm_model.specs.declared.outcome.Outcome.TheVariants.{Idle}
-use Rattle.tm_hist.specs.Board.{IsOwedNext, IsStopped, ShownBoard, TellsAsShown, stop_shown}
+use Rattle.tm_hist.specs.Board.{IsOwedNext, IsStopped, ShownBoard, TellsWithPending, stop_shown}
 use Rattle.tm_hist.specs.History.{pair_of}
 use Rattle.tm_hist.specs.Machine.{shown_state}
-use Rattle.tm_hist.proofs.Boards.{is_history, none_now}
-use Rattle.tm_hist.proofs.Idles.{idle_exactly}
+use Rattle.tm_hist.proofs.Boards.{drained_now, is_history}
+use Rattle.tm_hist.proofs.PendingBoards.{idle_with_pending, tells_with}
 use Rattle.tm_hist.proofs.Stops.{stays_stopped}
-use Rattle.tm_hist.proofs.UnderEvents.{owed_behind, tells_as_shown}
+use Rattle.tm_hist.proofs.UnderEvents.{owed_behind}
 use Rattle.tm_hist.proofs.board.Board.step_under.Goals as goal
 
 pub returns-in-Ok-clause-stops : goal.returns-in-Ok-clause-stops
@@ -32,8 +32,9 @@ returns-in-Ok-clause-idle c =
     let doom = doomed_at_end (machine_setting h.start) (opening_state c.self.inside.program) (λ _. None)
     (map pair_of c.self.inside.made.items) in
     let stands = h.is_run.takes.stands in
-    let both = idle_exactly (Some c.args.event) c.self.inside.machine c.step_under.new.self h.is_run.takes.last doom
-    c.args.core c.in-Ok.told (none_now _ _ c.self.invariant c.args.core) stands (c.in-Ok.ensures.exists.0 refl)
+    let both =
+    idle_with_pending (Some c.args.event) c.self.inside.machine c.step_under.new.self h.is_run.takes.last doom
+    c.args.core c.in-Ok.told (drained_now _ _ c.self.invariant c.args.core) stands (c.in-Ok.ensures.exists.0 refl)
     (c.in-Ok.ensures.ok h.is_run.takes.last doom stands) in
     subst (λ (b : ShownBoard). (c.in-Ok.told ≡ Idle) ↔ IsStopped b c.args.core) c.self.view_is both
 
@@ -45,7 +46,7 @@ returns-in-Ok-clause-owed c =
 
 pub returns-in-Ok-clause-told : goal.returns-in-Ok-clause-told
 returns-in-Ok-clause-told c =
-    subst (λ (b : ShownBoard). TellsAsShown c.args.event (shown_state b.machine c.args.core) c.in-Ok.told)
-    c.self.view_is
-    (tells_as_shown c.args.event _ c.step_under.new.self c.args.core c.in-Ok.told (is_history _ _ c.self.invariant)
+    subst (λ (b : ShownBoard). TellsWithPending c.args.event (pending_at b.machine c.args.core)
+    (shown_state b.machine c.args.core) c.in-Ok.told) c.self.view_is
+    (tells_with c.args.event _ c.step_under.new.self c.args.core c.in-Ok.told (is_history _ _ c.self.invariant)
     (c.in-Ok.ensures.exists.0 refl) c.in-Ok.ensures.ok)

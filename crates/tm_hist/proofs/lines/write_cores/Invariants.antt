@@ -1,7 +1,7 @@
 use Rattle.std.specs.List.{flat_map, range_with_len}
 use Rattle.text_out.specs.Writing.{Wrote}
 use Rattle.tm_hist.specs.Lines.{core_text}
-use Rattle.tm_hist.proofs.lines.write_state.Given as goal
+use Rattle.tm_hist.proofs.lines.write_cores.Given as goal
 
 -- the lines of the cores so far were written
 abbrev pub invariant-loop-core : goal.invariant-loop-core
