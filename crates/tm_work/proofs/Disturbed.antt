@@ -1,6 +1,5 @@
 -- What steps tell of events.
-use Rattle.std.proofs.Common.{◌≡◌, ℕ, List, [], ◌∷◌, ◌++◌, false, Option, Some, None, refl, sym, subst, ⊎_elim, inl}
-use Rattle.std.proofs.Common.{inr}
+use Rattle.std.proofs.Common.{◌≡◌, ℕ, List, [], ◌∷◌, ◌++◌, false, Option, Some, None, refl, sym, ap, subst, inl, inr}
 use Rattle.std.proofs.Math.Seq.{drop-length}
 use Rattle.std.proofs.lemmas.List.Elements.{All-append, All-cons, All-nil, All-weaker}
 use Rattle.tm_hist.specs.Board.{ShownBoard, TellsOf}
@@ -40,7 +39,8 @@ of_none kinds Drained h = tt
 -- one that is told of its step's event is of the kinds of that
 of_told : (kinds : Kinds) (e : Option Event) (o : Outcome) → IsOfKinds kinds e → TellsOf e o → IsAbortOfKinds kinds o
 of_told kinds e (AbortedBy by status) h (inl none) = absurd (cc)
-of_told kinds e (AbortedBy by status) h (inr same) = subst (IsOfKinds kinds) (sym same) h
+of_told kinds e (AbortedBy by status) h (inr (inl same)) = subst (IsOfKinds kinds) (sym same) h
+of_told kinds e (AbortedBy by status) h (inr (inr drained)) = absurd (cc)
 of_told kinds e (Aborted status) h told = tt
 of_told kinds e Plain h told = tt
 of_told kinds e Loaded h told = tt
@@ -63,9 +63,11 @@ not_aborted Inside h = refl
 not_aborted Committed h = refl
 not_aborted Drained h = refl
 
--- a step that tells of no event, or of none
-pub told_none : (o : Outcome) → TellsOf None o → event_told o ≡ None
-told_none o h = ⊎_elim (λ (e : event_told o ≡ None). e) (λ (e : event_told o ≡ None). e) h
+-- a step under no event
+pub told_none : (o : Outcome) → TellsOf None o → is_aborted_by o ≡ false
+told_none o (inl none) = not_aborted o none
+told_none o (inr (inl none)) = not_aborted o none
+told_none o (inr (inr drained)) = ap is_aborted_by drained
 
 no_kind_comes : (e : Option Event) → IsOfKinds no_kinds e → e ≡ None
 no_kind_comes None h = refl
@@ -109,8 +111,7 @@ drawn_one : (events : Events) (kinds : Kinds) (e : Option Event) (c : ℕ) (o : 
     → IsOfKinds kinds e → TellsOf e o → TellDrawn events ((c, o) ∷ [])
 drawn_one Never kinds e c o drawn of told =
     let none : e ≡ None = no_kind_comes e (subst (λ (k : Kinds). IsOfKinds k e) drawn of) in
-    All-cons Untold (c, o) [] (not_aborted o (told_none o (subst (λ (x : Option Event). TellsOf x o) none told)))
-    (All-nil Untold)
+    All-cons Untold (c, o) [] (told_none o (subst (λ (x : Option Event). TellsOf x o) none told)) (All-nil Untold)
 drawn_one (Rate one_in asked) kinds e c o drawn of told =
     let is : IsOfKinds asked e = subst (λ (k : Kinds). IsOfKinds k e) drawn of in
     All-cons (OfKinds asked) (c, o) [] (of_told asked e o is told) (All-nil (OfKinds asked))

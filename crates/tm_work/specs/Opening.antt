@@ -18,7 +18,7 @@ named_board_code table board =
 abbrev pub no_board : ShownBoard
 no_board = record {
   program = record { bytes = []; base = 0; code_len = 0; mem_size = 0; entries = [] };
-  limits = record { read_lines = 0; write_lines = 0 };
+  limits = record { read_lines = 0; write_lines = 0; stores = 0 };
   limit = 0;
   history = [];
   machine = record {

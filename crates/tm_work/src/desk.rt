@@ -4,8 +4,8 @@
 //! while they have the lock; [`Desk::close`] takes the board back and holds the seats against the ledger. How a
 //! step is made and noted stands in `desk_state`. Threads are started by `workers`: a desk knows of none.
 
-ghost use Rattle.std.specs.Prelude.{◌≡◌, ◌<◌, ◌++◌, ◌∷◌, [], length, All, IfOk, IfErr, IfSome, None};
-ghost use Rattle.tm_model.specs.Runs.{event_told};
+ghost use Rattle.std.specs.Prelude.{◌≡◌, ◌<◌, ◌++◌, ◌∷◌, [], length, All, IfOk, IfErr, IfSome, None, false};
+ghost use Rattle.tm_model.specs.Runs.{is_aborted_by};
 ghost use Rattle.tm_pick.specs.Drawn.{AreDrawn};
 ghost use Rattle.tm_work.specs.Seats.{AreSeats, AreTurns, IsLater, IsTurn, IsWorkedOn, SeatTells, no_progress};
 ghost use Rattle.tm_work.specs.Seats.{seat_with};
@@ -59,11 +59,11 @@ impl<J: DeskIdentity> Desk<J> {
     }
 
     /// One step of the seat's core, which is one more pair of the board's history; or nothing, exactly where the core
-    /// is stopped or the history full. So no step is idle. The receipt is then the seat's last one, and its index is
-    /// greater than that of the one before.
+    /// is stopped or the history full. So no step is idle, and none is an abort from outside. The receipt is then the
+    /// seat's last one, and its index is greater than that of the one before.
     pub fn turn(&self, rt: &impl Wait, seat: &mut Seat<J>) -> Option<Receipt>
         ensures turn { IsTurn seat.old result seat.new }
-        ensures alone { IfSome result (λ r. event_told r.outcome ≡ None) }
+        ensures alone { IfSome result (λ r. is_aborted_by r.outcome ≡ false) }
     {
         self.state.lock(rt).turn(seat, None)
     }

@@ -24,6 +24,7 @@ use tm_work::{
 const LIMITS: Limits = Limits {
     read_lines: 512,
     write_lines: 512,
+    stores: 0,
 };
 
 // Workers that are left alone.
