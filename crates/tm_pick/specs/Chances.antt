@@ -22,6 +22,10 @@ number_of_run seed run = seed * 2 ^ 32 + run
 abbrev pub number_of_events : ℕ → ℕ → ℕ
 number_of_events seed run = bit_xor (number_of_run seed run) 0x696e746572666572
 
+-- and one more, by "draining" in ASCII
+abbrev pub number_of_drains : ℕ → ℕ → ℕ
+number_of_drains seed run = bit_xor (number_of_run seed run) 0x647261696e696e67
+
 -- a number below this one, each as likely as another, and what the generator gives behind it
 abbrev pub below : ℕ → Stream → ℕ × Stream
 below bound words = canon (2 ^ 32) next_u32 bound words

@@ -1,5 +1,6 @@
 pub mod Kinds
 pub mod Drawn
+pub mod Drains
 pub mod Listed
 pub mod Lots
 pub mod Sources

@@ -1,12 +1,14 @@
 //! Numbers by chance: generators that are a function of the seed and the number of a run alone.
 //!
-//! [`Chance::of_run`] draws the cores of a run and [`Chance::of_events`] its events, so that neither moves the
-//! other's numbers. Nothing is asked of the system; the seed itself comes with a schedule's options.
+//! [`Chance::of_run`] draws the cores of a run, [`Chance::of_events`] its events and [`Chance::of_drains`] its drains,
+//! so that none moves another's numbers. Nothing is asked of the system; the seed itself comes with a schedule's
+//! options.
 
 ghost use Rattle.std.specs.Prelude.{◌≡◌, ◌<◌, ◌^◌, Contains, IsPermutation, length};
 ghost use Rattle.rand.specs.Shuffle.{shuffled};
 ghost use Rattle.tm_pick.specs.Choices.{IsAny};
-ghost use Rattle.tm_pick.specs.Chances.{below, generator_of, number_of_events, number_of_run, words_of};
+ghost use Rattle.tm_pick.specs.Chances.{below, generator_of, number_of_drains, number_of_events, number_of_run};
+ghost use Rattle.tm_pick.specs.Chances.{words_of};
 
 use crate::going::Going;
 use rand::RngExt;
@@ -16,6 +18,9 @@ use rand_xoshiro::Xoshiro256PlusPlus;
 
 /// By what the number of a run's events differs from that of its cores: "interfer" in ASCII.
 const OF_EVENTS: u64 = 0x696e_7465_7266_6572;
+
+/// The same of its drains: "draining" in ASCII.
+const OF_DRAINS: u64 = 0x6472_6169_6e69_6e67;
 
 /// A generator of one run: a function of the seed and the run's number alone.
 #[derive(Drop)]
@@ -37,6 +42,13 @@ impl Chance {
         ensures { words_of result ≡ generator_of (number_of_events seed run) }
     {
         Chance::of_number(both(seed, run) ^ OF_EVENTS)
+    }
+
+    /// The generator of the drains of a run: one more.
+    pub fn of_drains(seed: u32, run: u32) -> Chance
+        ensures { words_of result ≡ generator_of (number_of_drains seed run) }
+    {
+        Chance::of_number(both(seed, run) ^ OF_DRAINS)
     }
 
     // The generator whose state SplitMix64 fills from a number.

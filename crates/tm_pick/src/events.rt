@@ -16,8 +16,8 @@ use crate::kinds::Kinds;
 use crate::lot::Lot;
 use tm_model::Interference;
 
-/// Among how many rates a run draws its own: 1, 1/2, 1/4 and so on, down to 1/64.
-const RATES: u32 = 7;
+/// Among how many rates a run draws its own, of events and of drains: 1, 1/2, 1/4 and so on, down to 1/64.
+pub const RATES: u32 = 7;
 
 /// The events of the steps of a run by chance: aborts from outside of the program (SDM volume 1, 16.3.8).
 #[derive(Clone, Copy, PartialEq, Eq)]

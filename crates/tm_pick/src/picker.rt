@@ -9,6 +9,7 @@ ghost use Rattle.tm_pick.specs.Befalls.{IsDrawnEvent};
 ghost use Rattle.tm_pick.specs.Begun.{IsManner};
 ghost use Rattle.tm_pick.specs.Chances.{generator_of, number_of_run, words_of};
 ghost use Rattle.tm_pick.specs.Choices.{IsPicked};
+ghost use Rattle.tm_pick.specs.Drains.{first_event};
 ghost use Rattle.tm_pick.specs.Lots.{kinds_drawn};
 ghost use Rattle.tm_pick.specs.Methods.{IsDrawnBy};
 ghost use Rattle.tm_pick.specs.declared.method.Method.TheVariants as method;
@@ -205,9 +206,9 @@ impl<'a> Picker<'a> {
     }
 }
 
-// The event that is drawn for the next step, if any.
+/// The event that is drawn for the next step, if any.
 #[inline(always)]
-fn next_event(lot: &mut Option<Lot>) -> Option<Event>
+pub fn next_event(lot: &mut Option<Lot>) -> Option<Event>
     ensures kinds { IsOfKinds (kinds_drawn lot.old) result }
     ensures same { kinds_drawn lot.new ≡ kinds_drawn lot.old }
     ensures drawn { IsDrawnEvent lot.old result lot.new }
@@ -218,11 +219,12 @@ fn next_event(lot: &mut Option<Lot>) -> Option<Event>
     }
 }
 
-// The event of a list, or else the one that was drawn.
+/// The event of a list, or else the one that was drawn.
 #[inline(always)]
 #[tactic(auto, using(crate::proofs::OfKinds::of_left, crate::proofs::OfKinds::of_right))]
-fn first_of(listed: Option<Event>, drawn: Option<Event>) -> Option<Event>
+pub fn first_of(listed: Option<Event>, drawn: Option<Event>) -> Option<Event>
     ensures alone { listed ≡ None → result ≡ drawn }
+    ensures first { result ≡ first_event listed drawn }
     ensures kinds { (kinds others : Kinds) → IsOfKinds kinds listed → IsOfKinds others drawn →
         IsOfKinds (both_kinds kinds others) result }
 {
