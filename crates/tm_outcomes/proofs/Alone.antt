@@ -95,17 +95,18 @@ module _ (trial : Trial) (before after : Place) (core count : ℕ)
   place_alone is = let (history, long, own, all) = takes in
       record { rules = all.same.rules ∙ is.rules; count = all.same.cores ∙ is.count }
 
-  pub at_alone : (schedule : List Pick) → IsAt trial before schedule
+  -- where no store may be pending
+  pub at_alone : trial.limits.stores ≡ 0 → (schedule : List Pick) → IsAt trial before schedule
       → IsAt trial after (schedule ++ replicate count (alone core))
-  at_alone schedule at =
+  at_alone off schedule at =
       let (history, long, own, all) = takes in
       let setting : Setting = machine_setting before.machine in
       let t = all.takes at.now.state at.now.doomed at.stands in
       let end : Situation = ended_at setting at.now history t.last in
       let picks : picks_of history ≡ replicate count (alone core) =
       picks_alone setting at.now.state at.now.doomed core history
-      (ap (λ (s : Setting). s.store_buffer) at.rules) (none_reached trial schedule at.now at.is_run) t.are_owed own
-      all.tells
+      (ap (λ (s : Setting). s.store_buffer) at.rules ∙ off) (none_reached trial schedule at.now off at.is_run)
+      t.are_owed own all.tells
       ∙ ap (λ n. replicate n (alone core)) long in
       let runs : after_schedule (trial_setting trial) at.now (replicate count (alone core)) ≡ Some end =
       subst (λ (s : Setting). after_schedule s at.now (replicate count (alone core)) ≡ Some end) at.rules

@@ -20,7 +20,6 @@ use Rattle.tm_outcomes.specs.declared.place.Place.{Place}
 use Rattle.tm_outcomes.specs.declared.trial.Trial.{Trial}
 use Rattle.tm_outcomes.specs.declared.written.Written.{Written}
 use Rattle.tm_outcomes.proofs.Catching.{lead_memory, lead_runs}
-use Rattle.tm_outcomes.proofs.NonePending.{none_pick, none_reached}
 use Rattle.tm_outcomes.proofs.Runs.{run_then}
 use Rattle.tm_outcomes.proofs.Somes.{same_in}
 use Rattle.tm_outcomes.proofs.Stored.{on_more, then_same}
@@ -78,9 +77,7 @@ within_advanced trial lines schedule place after pick steps at advances within n
     (subst (λ (s : List Pick). after_schedule setting at.now s ≡ Some step.end) (sym advances.made) runs) in
     let same : step.end ≡ now = same_in (sym ends ∙ is_run) in
     let memory : step.end.state.memory ≡ step.next.state.memory =
-    lead_memory setting (IsAllowed trial.events) advances.rest step.next step.end refl
-    (none_pick setting at.now step.next pick refl (none_reached trial schedule at.now at.is_run) step.is_next)
-    step.rests in
+    lead_memory setting (IsAllowed trial.events) advances.rest step.next step.end step.rests in
     subst (λ (x : Situation). IsSameElsewhere lines x.state.memory (opening_memory trial.program.now)) same
     (subst (λ m. IsSameElsewhere lines m (opening_memory trial.program.now)) (sym memory)
     (then_same lines step.next.state.memory at.now.state.memory (opening_memory trial.program.now)

@@ -4,7 +4,6 @@ use Rattle.std.proofs.Common.{Some, None, length, refl, sym, ap, ◌∙◌, subs
 use Rattle.std.specs.Prelude.{All, nat_eq, option_and_then}
 use Rattle.std.proofs.lemmas.Bool.{eq-eqb, eqb-true, false≢true}
 use Rattle.std.proofs.lemmas.List.Elements.{All-cons, All-head, All-nil, All-tail}
-use Rattle.tm_model.proofs.NonePending.{NonePending}
 use Rattle.tm_model.specs.Setting.{Setting}
 use Rattle.tm_model.specs.State.{Core, seen_by}
 use Rattle.tm_model.specs.declared.outcome.Event.{Event}
@@ -14,7 +13,7 @@ use Rattle.tm_outcomes.specs.Schedules.{HasEnded, Situation, after_pick, after_s
 use Rattle.tm_outcomes.specs.Unseen.{IsUnseen, LeadUnseen, is_unseen}
 use Rattle.tm_outcomes.specs.Verdicts.{HasStoppedBy, StopsBy}
 use Rattle.tm_outcomes.proofs.Crossing.{picked, same_under_any, unseen_at, unseen_first, unseen_goes}
-use Rattle.tm_outcomes.proofs.NonePending.{core_within, none_pick}
+use Rattle.tm_outcomes.proofs.NonePending.{core_within}
 use Rattle.tm_outcomes.proofs.Somes.{same_in}
 
 pub split : (o : Option Situation) (f : Situation → Option Situation) (end : Situation)
@@ -46,16 +45,16 @@ module _ (setting : Setting) (allowed : Option Event → Type 0) where
   lead_allowed (pick ∷ picks) now end lead =
       All-cons (λ (pick : Pick). allowed pick.event) pick picks lead.1 (lead_allowed picks lead.2.0 end lead.2.1.1)
 
-  -- where no store is pending
-  pub lead_memory : (picks : List Pick) (now end : Situation) → setting.store_buffer ≡ 0 → NonePending now.state
-      → LeadUnseen setting allowed now picks end → end.state.memory ≡ now.state.memory
-  lead_memory [] now end off none lead = ap (λ (x : Situation). x.state.memory) (sym lead)
-  lead_memory (pick ∷ picks) now end off none lead =
-      let step = picked setting now lead.2.0 pick off none lead.2.1.0 in
+  -- which leave memory
+  pub lead_memory : (picks : List Pick) (now end : Situation) → LeadUnseen setting allowed now picks end
+      → end.state.memory ≡ now.state.memory
+  lead_memory [] now end lead = ap (λ (x : Situation). x.state.memory) (sym lead)
+  lead_memory (pick ∷ picks) now end lead =
+      let step = picked setting now lead.2.0 pick lead.2.1.0 in
       let is = unseen_at setting now pick.core lead.0 in
-      lead_memory picks lead.2.0 end off (none_pick setting now lead.2.0 pick off none lead.2.1.0) lead.2.1.1
+      lead_memory picks lead.2.0 end lead.2.1.1
       ∙ ap (λ (x : Situation). x.state.memory)
-      (same_in (sym lead.2.1.0 ∙ unseen_goes setting now pick is off step.left step.below))
+      (same_in (sym lead.2.1.0 ∙ unseen_goes setting now pick is lead.0.0 step.below))
 
   -- ---- where cores have stopped
 
@@ -70,23 +69,23 @@ module _ (setting : Setting) (allowed : Option Event → Type 0) where
   ended_rests (pick ∷ picks) now end ended lead =
       let halted = ended pick.core (core_within setting now lead.2.0 pick lead.2.1.0) in
       absurd (false≢true (sym (halted_sees (seen_by now.state pick.core) (now.state.cores pick.core)
-      (now.doomed pick.core) halted.1.0 (halted.0, halted.1.1)) ∙ lead.0))
+      (now.doomed pick.core) halted.1.0 (halted.0, halted.1.1)) ∙ lead.0.1))
 
-  stays : (now next : Situation) (pick : Pick) (why : Stop) → setting.store_buffer ≡ 0 → NonePending now.state
-      → IsUnseen setting now pick.core → after_pick setting now pick ≡ Some next →
+  stays : (now next : Situation) (pick : Pick) (why : Stop) → IsUnseen setting now pick.core
+      → after_pick setting now pick ≡ Some next →
       StopsBy now.state why → StopsBy next.state why
-  stays now next pick why off none unseen goes stopped =
-      let step = picked setting now next pick off none goes in
+  stays now next pick why unseen goes stopped =
+      let step = picked setting now next pick goes in
       let core : ℕ = stopped.0 in
       let other : nat_eq core pick.core ≡ false =
       not_same core pick.core
       (λ same.
       absurd (false≢true (sym (halted_sees (seen_by now.state pick.core) (now.state.cores pick.core)
-      (now.doomed pick.core) why (subst (λ n. HasStoppedBy (now.state.cores n) why) same stopped.2)) ∙ unseen))) in (
+      (now.doomed pick.core) why (subst (λ n. HasStoppedBy (now.state.cores n) why) same stopped.2)) ∙ unseen.1))) in (
         core,
         subst (λ (x : Situation). core < x.state.count) (sym step.is_next) stopped.1,
         subst (λ (x : Situation). HasStoppedBy (x.state.cores core) why) (sym step.is_next)
-            (subst (λ t. HasStoppedBy (cond t step.made.1 (now.state.cores core)) why) (sym other) stopped.2),
+            (subst (λ t. HasStoppedBy (cond t step.to.1.1 (now.state.cores core)) why) (sym other) stopped.2),
       )
     where
       by_test : (a b : ℕ) (test : Bool) → nat_eq a b ≡ test → (a ≡ b → ⊥) → nat_eq a b ≡ false
@@ -97,13 +96,13 @@ module _ (setting : Setting) (allowed : Option Event → Type 0) where
       not_same a b differs = by_test a b (nat_eq a b) refl differs
 
   -- one that has stopped stays so
-  pub stays_stopped : (picks : List Pick) (now end : Situation) (why : Stop) → setting.store_buffer ≡ 0
-      → NonePending now.state → LeadUnseen setting allowed now picks end →
+  pub stays_stopped : (picks : List Pick) (now end : Situation) (why : Stop)
+      → LeadUnseen setting allowed now picks end →
       StopsBy now.state why → StopsBy end.state why
-  stays_stopped [] now end why off none lead stopped = subst (λ (x : Situation). StopsBy x.state why) lead stopped
-  stays_stopped (pick ∷ picks) now end why off none lead stopped =
-      stays_stopped picks lead.2.0 end why off (none_pick setting now lead.2.0 pick off none lead.2.1.0) lead.2.1.1
-      (stays now lead.2.0 pick why off none lead.0 lead.2.1.0 stopped)
+  stays_stopped [] now end why lead stopped = subst (λ (x : Situation). StopsBy x.state why) lead stopped
+  stays_stopped (pick ∷ picks) now end why lead stopped =
+      stays_stopped picks lead.2.0 end why lead.2.1.1
+      (stays now lead.2.0 pick why lead.0 lead.2.1.0 stopped)
 
   -- ---- one step beside unseen ones
 
@@ -127,30 +126,29 @@ module _ (setting : Setting) (allowed : Option Event → Type 0) where
       turned true is = absurd (false≢true (sym e ∙ eq-eqb a b (sym (eqb-true b a is))))
       turned false is = is
 
-  pub one_beside : (picks : List Pick) (now end next : Situation) (pick : Pick) → setting.store_buffer ≡ 0
-      → NonePending now.state → LeadUnseen setting allowed now picks end →
+  pub one_beside : (picks : List Pick) (now end next : Situation) (pick : Pick)
+      → LeadUnseen setting allowed now picks end →
       after_pick setting now pick ≡ Some next → IsAmong next end ⊎ IsBeside next end pick
-  one_beside [] now end next pick off none lead goes = inr (record {
+  one_beside [] now end next pick lead goes = inr (record {
     after = next;
     is_after = subst (λ (x : Situation). after_pick setting x pick ≡ Some next) lead goes;
     picks = [];
     leads = refl;
   })
-  one_beside (first ∷ picks) now end next pick off none lead goes =
+  one_beside (first ∷ picks) now end next pick lead goes =
       elim (differs pick.core first.core (nat_eq pick.core first.core) refl) [
         | inl same ↦
             let is : lead.2.0 ≡ next =
             same_in
-            (sym (same_under_any setting now lead.2.0 first pick off none lead.0 (sym same) lead.2.1.0) ∙ goes) in
+            (sym (same_under_any setting now lead.2.0 first pick lead.0 (sym same) lead.2.1.0) ∙ goes) in
             inl (record {
               picks = picks;
               leads = subst (λ (x : Situation). LeadUnseen setting allowed x picks end) is lead.2.1.1;
             })
         | inr apart ↦
             let cross =
-            unseen_first setting now lead.2.0 next first pick off none lead.0 apart.0 apart.1 lead.2.1.0 goes in
-            let none_then = none_pick setting now lead.2.0 first off none lead.2.1.0 in
-            elim (one_beside picks lead.2.0 end cross.end pick off none_then lead.2.1.1 cross.other_last) [
+            unseen_first setting now lead.2.0 next first pick lead.0 apart.0 apart.1 lead.2.1.0 goes in
+            elim (one_beside picks lead.2.0 end cross.end pick lead.2.1.1 cross.other_last) [
               | inl among ↦ inl (record {
                 picks = first ∷ among.picks;
                 leads = (cross.still, lead.1, (cross.end, (cross.one_last, among.leads)));
@@ -175,11 +173,10 @@ module _ (setting : Setting) (allowed : Option Event → Type 0) where
     pub steps : List Pick
     pub leads : LeadUnseen setting allowed end steps last
 
-  pub catches_up : (schedule steps : List Pick) (now rest end : Situation) → setting.store_buffer ≡ 0
-      → NonePending now.state → LeadUnseen setting allowed now steps rest →
+  pub catches_up : (schedule steps : List Pick) (now rest end : Situation) → LeadUnseen setting allowed now steps rest →
       All (λ (pick : Pick). allowed pick.event) schedule → after_schedule setting now schedule ≡ Some end
       → CatchesUp schedule end rest
-  catches_up [] steps now rest end off none lead all run = record {
+  catches_up [] steps now rest end lead all run = record {
     picks = [];
     few = omega arith;
     are_allowed = All-nil (λ (pick : Pick). allowed pick.event);
@@ -188,13 +185,12 @@ module _ (setting : Setting) (allowed : Option Event → Type 0) where
     steps = steps;
     leads = subst (λ (x : Situation). LeadUnseen setting allowed x steps rest) (same_in run) lead;
   }
-  catches_up (pick ∷ schedule) steps now rest end off none lead all run =
+  catches_up (pick ∷ schedule) steps now rest end lead all run =
       let parts = split (after_pick setting now pick) (λ next. after_schedule setting next schedule) end run in
       let behind = All-tail (λ (pick : Pick). allowed pick.event) pick schedule all in
-      let none_then = none_pick setting now parts.0 pick off none parts.1.0 in
-      elim (one_beside steps now rest parts.0 pick off none lead parts.1.0) [
+      elim (one_beside steps now rest parts.0 pick lead parts.1.0) [
         | inl among ↦
-            let up = catches_up schedule among.picks parts.0 rest end off none_then among.leads behind parts.1.1 in
+            let up = catches_up schedule among.picks parts.0 rest end among.leads behind parts.1.1 in
             record {
               picks = up.picks;
               few = (let few = up.few in omega arith);
@@ -206,7 +202,7 @@ module _ (setting : Setting) (allowed : Option Event → Type 0) where
             }
         | inr beside ↦
             let up =
-            catches_up schedule beside.picks parts.0 beside.after end off none_then beside.leads behind parts.1.1 in
+            catches_up schedule beside.picks parts.0 beside.after end beside.leads behind parts.1.1 in
             record {
               picks = pick ∷ up.picks;
               few = (let few = up.few in omega arith);

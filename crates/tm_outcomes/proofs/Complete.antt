@@ -17,7 +17,6 @@ use Rattle.tm_outcomes.specs.declared.links.Link.{Link}
 use Rattle.tm_outcomes.specs.declared.searching.Searching.{Searching}
 use Rattle.tm_outcomes.specs.declared.trial.Trial.{Trial}
 use Rattle.tm_outcomes.proofs.Catching.{catches_up, ended_rests, split, then_lead}
-use Rattle.tm_outcomes.proofs.NonePending.{leads_none, none_pick}
 use Rattle.tm_outcomes.proofs.Somes.{same_in}
 
 -- only a core that is there steps
@@ -89,8 +88,7 @@ module _ (trial : Trial) (schedules : List (List Pick)) (links : List Link)
       let under : Option Event → Type 0 = IsAllowed trial.events in
       let parts = split (after_pick setting now pick) (λ next. after_schedule setting next picks) end e in
       let step = steps_to pick now parts.0 index (All-head (IsAllowedIn trial) pick picks allowed) leads parts.1.0 in
-      let none = none_pick setting now parts.0 pick refl (leads_none trial schedules index now leads) parts.1.0 in
-      let up = catches_up setting under picks step.rest parts.0 step.end end refl none step.rests
+      let up = catches_up setting under picks step.rest parts.0 step.end end step.rests
       (All-tail (IsAllowedIn trial) pick picks allowed) parts.1.1 in
       let met = reach most up.picks step.end up.last step.to (let f = up.few in omega arith) up.are_allowed
       step.leads up.is_run in

@@ -10,14 +10,25 @@ use Rattle.std.proofs.lemmas.List.Elements.{Contains-append_cases, Contains-appe
 use Rattle.std.proofs.lemmas.List.Elements.{Contains-push, Contains-push_cases}
 use Rattle.std.proofs.lemmas.List.Sums.{fold-append}
 use Rattle.tm_core.specs.Reopening.{IsSameElsewhere}
-use Rattle.tm_core.specs.Theorem.{no_regs}
+use Rattle.tm_core.specs.Theorem.{no_regs, pending_at}
 use Rattle.tm_model.specs.Shown.{View, view_outside}
+use Rattle.tm_model.specs.State.{Pending}
 use Rattle.tm_model.specs.declared.outcome.CoreState.TheVariants.{Running}
-use Rattle.tm_outcomes.specs.Digests.{digest_by, mixed, mixed_cores, mixed_line, mixed_lines, mixed_words, word_in}
+use Rattle.tm_outcomes.specs.Digests.{digest_by, mixed, mixed_buffers, mixed_cores, mixed_line, mixed_lines}
+use Rattle.tm_outcomes.specs.Digests.{mixed_pending, mixed_words, word_in}
 use Rattle.tm_outcomes.specs.Places.{AreAlike}
 use Rattle.tm_outcomes.specs.Written.{HasMore}
 use Rattle.tm_outcomes.specs.declared.place.Place.{Place}
 use Rattle.tm_outcomes.specs.declared.written.Written.{Written}
+
+-- the same stores are taken up alike
+same_buffers : (here there : ℕ → Pending) (digest count : ℕ) → ((core : ℕ) → core < count → here core ≡ there core) →
+    mixed_buffers here digest count ≡ mixed_buffers there digest count
+same_buffers here there digest zero same = refl
+same_buffers here there digest (suc count) same =
+    ap (λ d. mixed_pending d (here count))
+    (same_buffers here there digest count (λ core below. same core (omega arith)))
+    ∙ ap (λ (q : Pending). mixed_pending (mixed_buffers there digest count) q) (same count (omega arith))
 
 pub same_digest : (written : Written) (a b : Place) → AreAlike a b → digest_by written a ≡ digest_by written b
 same_digest written a b alike =
@@ -25,8 +36,15 @@ same_digest written a b alike =
     let lines : List ℕ = written.lines.items in
     let views : a.machine.views ≡ b.machine.views =
     ext_get_or (view_outside Running no_regs) a.machine.views b.machine.views alike.count alike.each in
+    let count : ℕ = length a.machine.views in
+    let shown : mixed_cores (mixed_lines a.machine.memory opening 0 lines) a.machine.views
+    ≡ mixed_cores (mixed_lines b.machine.memory opening 0 lines) b.machine.views =
     ap (λ (m : List ℕ). mixed_cores (mixed_lines m opening 0 lines) a.machine.views) alike.memory
-    ∙ ap (λ (vs : List View). mixed_cores (mixed_lines b.machine.memory opening 0 lines) vs) views
+    ∙ ap (λ (vs : List View). mixed_cores (mixed_lines b.machine.memory opening 0 lines) vs) views in
+    ap (λ d. mixed_buffers (pending_at a.machine) d count) shown
+    ∙ (same_buffers (pending_at a.machine) (pending_at b.machine) _ count alike.pending
+    ∙ ap (λ n. mixed_buffers (pending_at b.machine)
+    (mixed_cores (mixed_lines b.machine.memory opening 0 lines) b.machine.views) n) alike.count)
 
 -- ---- a line that is the same in the other memory is not taken up
 
@@ -97,10 +115,11 @@ noted_later before after place same has elsewhere =
       | inl old ↦ absurd (has.fresh (address / 64) among old)
       | inr is ↦ is
     ]) in
-    ap (λ (o : List ℕ). mixed_cores (mixed_lines memory o 0 after.lines.items) place.machine.views)
+    ap (λ d. mixed_buffers (pending_at place.machine) d (length place.machine.views))
+    (ap (λ (o : List ℕ). mixed_cores (mixed_lines memory o 0 after.lines.items) place.machine.views)
     (ap (λ v. v.items) same)
     ∙ (ap (λ (ls : List ℕ). mixed_cores (mixed_lines memory opening 0 ls) place.machine.views) has.grown
-    ∙ ap (λ d. mixed_cores d place.machine.views) (fold-append (mixed_line memory opening) 0 lines has.more ∙ later))
+    ∙ ap (λ d. mixed_cores d place.machine.views) (fold-append (mixed_line memory opening) 0 lines has.more ∙ later)))
 
 -- ---- lines that are added
 

@@ -5,7 +5,7 @@ use Rattle.std.proofs.lemmas.List.Elements.{All-weaker}
 use Rattle.tm_core.specs.Theorem.{StandsFor}
 use Rattle.tm_model.specs.declared.outcome.Pick.{Pick}
 use Rattle.tm_outcomes.specs.Links.{IsLink}
-use Rattle.tm_outcomes.specs.Nodes.{IsEnd, IsExplored, IsFollowed, IsShown, IsStep, IsUntouched, LeadsAlong, LeadsTo}
+use Rattle.tm_outcomes.specs.Nodes.{IsEnd, IsExplored, IsFollowed, IsShown, IsStep, LeadsAlong, LeadsTo}
 use Rattle.tm_outcomes.specs.Nodes.{schedule_at}
 use Rattle.tm_outcomes.specs.Outcomes.{trial_opening, trial_setting}
 use Rattle.tm_outcomes.specs.Places.{IsAt}
@@ -81,10 +81,6 @@ module _ (trial : Trial) (schedules more : List (List Pick)) where
     is_link = followed.is_link;
     along = along_grown index pick followed.to within followed.along;
   }
-
-  pub untouched_grown : (index core : ℕ) → index < length schedules → IsUntouched trial schedules index core →
-      IsUntouched trial (schedules ++ more) index core
-  untouched_grown index core within same = λ now leads event. same now (from_grown index now within leads) event
 
   longer : length schedules ≤ length (schedules ++ more)
   longer = (let e = length-append schedules more in omega arith)

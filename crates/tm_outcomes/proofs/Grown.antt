@@ -1,19 +1,22 @@
 -- A node whose core's steps are followed under several events, one after another.
-use Rattle.std.proofs.Common.{◌≡◌, ◌⊎◌, inl, inr, ℕ, ◌+◌, ◌<◌, ◌≤◌, List, [], ◌∷◌, ◌++◌, Option, Some, None}
+use Rattle.std.proofs.Common.{◌≡◌, ◌⊎◌, inl, inr, ℕ, ◌+◌, ◌<◌, List, [], ◌∷◌, ◌++◌, Option, Some, None}
 use Rattle.std.proofs.Common.{length, get_or}
 use Rattle.std.proofs.Common.{take, append_assoc, refl, sym, ap, ◌∙◌, subst, arith, length-append}
-use Rattle.std.proofs.lemmas.List.{append-nil, take_more}
+use Rattle.std.proofs.lemmas.List.{take_more}
 use Rattle.std.proofs.lemmas.List.Elements.{Contains-push_cases}
 use Rattle.tm_model.specs.declared.outcome.Event.{Event}
 use Rattle.tm_model.specs.declared.outcome.Pick.{Pick}
-use Rattle.tm_outcomes.specs.Nodes.{HaveSchedules, IsFollowed, IsTree, IsUntouched, schedule_at}
+use Rattle.tm_outcomes.specs.Following.{AreKnownAt, IsUntouchedAt}
+use Rattle.tm_outcomes.specs.Nodes.{BefallsBehind, HaveSchedules, IsFollowed, IsTree, IsUntouchedBehind}
+use Rattle.tm_outcomes.specs.Nodes.{schedule_at}
 use Rattle.tm_outcomes.specs.Outcomes.{IsNoneOrOneOf}
-use Rattle.tm_outcomes.specs.Searching.{IsFollowedIn, IsOneOf, IsThis}
+use Rattle.tm_outcomes.specs.Searching.{IsFollowedIn, IsThis}
 use Rattle.tm_outcomes.specs.declared.links.Link.{Link}
+use Rattle.tm_outcomes.specs.declared.searching.Followed.{Followed}
 use Rattle.tm_outcomes.specs.declared.searching.Searching.{Searching}
 use Rattle.tm_outcomes.specs.declared.trial.Trial.{Trial}
 use Rattle.tm_outcomes.proofs.Benches.{one_schedule}
-use Rattle.tm_outcomes.proofs.Follows.{followed_grown, followed_more, untouched_grown}
+use Rattle.tm_outcomes.proofs.Follows.{followed_grown, followed_more}
 use Rattle.tm_outcomes.proofs.Trees.{schedule_old}
 
 -- a pick that is followed, by its core and its event
@@ -26,14 +29,13 @@ under_this trial schedules links index pick followed event is =
     followed
 
 -- none of no events
-none_of : (event : Option Event) → IsOneOf [] event → ⊥
-none_of None is = is
-none_of (Some event) is = (let below = is.1 in omega arith)
+none_of : (event : Event) → IsNoneOrOneOf [] (Some event) → ⊥
+none_of event is = (let below = is.1 in omega arith)
 
--- one of these and another
-either_of : (events : List Event) (event : Event) (one : Option Event) → IsOneOf (events ++ event ∷ []) one →
-    IsOneOf events one ⊎ IsThis (Some event) one
-either_of events event None is = elim is [ ]
+-- none or one of these, or another
+either_of : (events : List Event) (event : Event) (one : Option Event) → IsNoneOrOneOf (events ++ event ∷ []) one →
+    IsNoneOrOneOf events one ⊎ IsThis (Some event) one
+either_of events event None is = inl tt
 either_of events event (Some one) is = elim (Contains-push_cases events event one is) [
   | inl before ↦ inl before
   | inr same ↦ inr (ap Some (sym same))
@@ -77,18 +79,18 @@ module _ (trial : Trial) (most index core : ℕ) where
       index here here in
       subst P (sym was ∙ same) (holds tree.0 tree.1)
 
-  -- under no event so far
-  pub nothing_yet : (search : Searching) → length search.nodes.items ≤ most →
-      IsFollowedIn trial most search search index core (IsOneOf [])
-  nothing_yet search few = record {
-    few = few;
-    kept = λ from to link. link;
-    grows = λ schedules tree. record {
-      grown = schedules;
-      has_grown = record { tree = tree; more = []; grown = sym (append-nil schedules) };
-      steps = λ all. all;
-      followed = λ event is. absurd (none_of event is);
-    };
+  -- and so is what is known of its core
+  pub known_still : (before after : Searching) (under : Option Event → Type 0) (first : Followed) →
+      IsFollowedIn trial most before after index core under → HaveSchedules trial before.nodes.items →
+      index < length before.nodes.items → AreKnownAt trial before.nodes.items index core first →
+      AreKnownAt trial after.nodes.items index core first
+  known_still before after under first followed tree within known = record {
+    untouched = λ event none.
+        holds_still (λ (s : List Pick). IsUntouchedBehind trial s core event) before after under followed tree within
+        (known.untouched event none);
+    befallen = λ event some.
+        holds_still (λ (s : List Pick). BefallsBehind trial s (record { core = core; event = Some event })) before after
+        under followed tree within (known.befallen event some);
   }
 
   -- under fewer events
@@ -147,69 +149,69 @@ module _ (trial : Trial) (most index core : ℕ) where
         };
   }
 
+  -- under none, before the first event of a list
+  pub none_first : (before after : Searching) → IsFollowedIn trial most before after index core (IsThis None) →
+      IsFollowedIn trial most before after index core (IsNoneOrOneOf [])
+  none_first before after alone =
+      under_fewer before after (IsThis None) (IsNoneOrOneOf []) (λ one. only_none one) alone
+    where
+      only_none : (one : Option Event) → IsNoneOrOneOf [] one → IsThis None one
+      only_none None is = refl
+      only_none (Some one) is = absurd (none_of one is)
+
   -- under one event more of a list
   pub next_of : (before middle after : Searching) (events : List Event) (at : ℕ) (default : Event) →
       index < length before.nodes.items → at < length events →
-      IsFollowedIn trial most before middle index core (IsOneOf (take at events)) →
+      IsFollowedIn trial most before middle index core (IsNoneOrOneOf (take at events)) →
       IsFollowedIn trial most middle after index core (IsThis (Some (get_or events at default))) →
-      IsFollowedIn trial most before after index core (IsOneOf (take (at + 1) events))
+      IsFollowedIn trial most before after index core (IsNoneOrOneOf (take (at + 1) events))
   next_of before middle after events at default within below so_far next =
       let event = get_or events at default in
-      let Among : Option Event → Type 0 = λ one. IsOneOf (take at events) one ⊎ IsThis (Some event) one in
-      under_fewer before after Among (IsOneOf (take (at + 1) events))
+      let Among : Option Event → Type 0 = λ one. IsNoneOrOneOf (take at events) one ⊎ IsThis (Some event) one in
+      under_fewer before after Among (IsNoneOrOneOf (take (at + 1) events))
       (λ one is. either_of (take at events) event one
-      (subst (λ (es : List Event). IsOneOf es one) (take_more events at default below) is))
-      (then_under before middle after (IsOneOf (take at events)) (IsThis (Some event)) within so_far next)
+      (subst (λ (es : List Event). IsNoneOrOneOf es one) (take_more events at default below) is))
+      (then_under before middle after (IsNoneOrOneOf (take at events)) (IsThis (Some event)) within so_far next)
 
-  -- under none, and under each event of a list
-  pub none_and_each : (before middle after : Searching) (events : List Event) → index < length before.nodes.items →
-      IsFollowedIn trial most before middle index core (IsThis None) →
-      IsFollowedIn trial most middle after index core (IsOneOf events) →
-      IsFollowedIn trial most before after index core (IsNoneOrOneOf events)
-  none_and_each before middle after events within alone each =
-      under_fewer before after (λ one. IsThis None one ⊎ IsOneOf events one) (IsNoneOrOneOf events)
-      (λ one. none_or_one one) (then_under before middle after (IsThis None) (IsOneOf events) within alone each)
-    where
-      none_or_one : (one : Option Event) → IsNoneOrOneOf events one → IsThis None one ⊎ IsOneOf events one
-      none_or_one None is = inl refl
-      none_or_one (Some one) is = inr is
-
-  -- where no event makes another step, what was followed under none was followed under each
-  pub none_for_each : (before after : Searching) (events : List Event) → index < length before.nodes.items →
-      ((schedules : List (List Pick)) → IsTree trial before.nodes.items schedules
-      → IsUntouched trial schedules index core) →
-      IsFollowedIn trial most before after index core (IsThis None) →
-      IsFollowedIn trial most before after index core (IsNoneOrOneOf events)
-  none_for_each before after events within untouched alone = record {
-    few = alone.few;
-    kept = alone.kept;
+  -- or under one that makes no other step, which was followed under none
+  pub passed_over : (before after : Searching) (events : List Event) (at : ℕ) (default : Event) →
+      at < length events → IsUntouchedAt trial after.nodes.items index core (get_or events at default) →
+      IsFollowedIn trial most before after index core (IsNoneOrOneOf (take at events)) →
+      IsFollowedIn trial most before after index core (IsNoneOrOneOf (take (at + 1) events))
+  passed_over before after events at default below untouched so_far = record {
+    few = so_far.few;
+    kept = so_far.kept;
     grows = λ schedules tree.
-        let step = alone.grows schedules tree in
-        let counted = tree.counted in
-        let same : IsUntouched trial step.grown index core =
-        subst (λ (g : List (List Pick)). IsUntouched trial g index core) (sym step.has_grown.grown)
-        (untouched_grown trial schedules step.has_grown.more index core (omega arith) (untouched schedules tree)) in
+        let step = so_far.grows schedules tree in
         record {
           grown = step.grown;
           has_grown = step.has_grown;
           steps = step.steps;
-          followed = λ event is. alike step.grown same (step.followed None refl) event;
+          followed = λ one is.
+              elim (either_of (take at events) (get_or events at default) one
+              (subst (λ (es : List Event). IsNoneOrOneOf es one) (take_more events at default below) is)) [
+                | inl earlier ↦ step.followed one earlier
+                | inr this ↦
+                    subst (λ (e : Option Event).
+                    IsFollowed trial step.grown after.links.items index (record { core = core; event = e })) (sym this)
+                    (alike step.grown (get_or events at default) (untouched step.grown step.has_grown.tree)
+                    (step.followed None tt))
+              ];
         };
   }
     where
-      alike : (schedules : List (List Pick)) → IsUntouched trial schedules index core →
+      alike : (schedules : List (List Pick)) (event : Event) →
+          IsUntouchedBehind trial (schedule_at schedules index) core event →
           IsFollowed trial schedules after.links.items index (record { core = core; event = None }) →
-          (event : Option Event) →
-          IsFollowed trial schedules after.links.items index (record { core = core; event = event })
-      alike schedules same followed None = followed
-      alike schedules same followed (Some event) = record {
+          IsFollowed trial schedules after.links.items index (record { core = core; event = Some event })
+      alike schedules event same followed = record {
         to = followed.to;
         is_link = followed.is_link;
         along = λ now leads.
             let step = followed.along now leads in
             record {
               next = step.next;
-              is_next = same now leads event ∙ step.is_next;
+              is_next = same leads.end now leads.is_run leads.same ∙ step.is_next;
               rest = step.rest;
               end = step.end;
               rests = step.rests;

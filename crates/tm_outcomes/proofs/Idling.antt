@@ -1,17 +1,17 @@
--- A core that has stopped stays where it is, under each event.
+-- A core that has stopped, and of which no store is pending, stays where it is, under each event.
 use Rattle.std.proofs.Common.{◌≡◌, ℕ, ◌<◌, Bool, true, false, cond, List, [], Option, Some, None, length, refl, sym, ap}
 use Rattle.std.proofs.Common.{◌∙◌, arith}
 use Rattle.std.specs.Prelude.{nat_eq, nat_lt}
 use Rattle.std.proofs.lemmas.Bool.{eqb-true, lt-ltb}
 use Rattle.ia_regs.specs.declared.Regs.{Regs}
 use Rattle.tm_rule.specs.declared.kinds.Stop.{Stop}
-use Rattle.tm_core.specs.Theorem.{view_at}
-use Rattle.tm_model.proofs.NonePending.{pending_stays, written_is}
+use Rattle.tm_core.specs.Theorem.{pending_at, view_at}
+use Rattle.tm_model.proofs.NonePending.{pending_stays}
 use Rattle.tm_model.specs.Conflicts.{addresses_loaded_by, addresses_written_by, doom_after_other, doom_after_own}
 use Rattle.tm_model.specs.Owed.{owed_under}
 use Rattle.tm_model.specs.Setting.{Setting}
-use Rattle.tm_model.specs.State.{Core, Halted, seen_by}
-use Rattle.tm_model.specs.Steps.{after_step_of}
+use Rattle.tm_model.specs.State.{Core, Halted, Pending, seen_by}
+use Rattle.tm_model.specs.Steps.{Next, after_step, store_buffered}
 use Rattle.tm_model.specs.declared.outcome.Event.{Event}
 use Rattle.tm_model.specs.declared.outcome.Event.TheVariants as event
 use Rattle.tm_model.specs.declared.outcome.Outcome.TheVariants.{Idle}
@@ -24,9 +24,8 @@ use Rattle.tm_outcomes.specs.declared.place.Place.{Place}
 use Rattle.tm_outcomes.specs.declared.trial.Trial.{Trial}
 use Rattle.tm_outcomes.proofs.Crossing.{moved, picks, same_situation}
 use Rattle.tm_outcomes.proofs.Leads.{leads_stands, shows}
-use Rattle.tm_outcomes.proofs.NonePending.{leads_none}
 use Rattle.tm_outcomes.proofs.Shown.{halted_is}
-use Rattle.tm_outcomes.proofs.UnseenCores.{untouched}
+use Rattle.tm_outcomes.proofs.UnseenCores.{at_once, settles, unbuffered, untouched}
 
 owed_idle : (by : Option Event) (setting : Setting) (memory : List ℕ) (regs : Regs) (stop : Stop) (doom : Option ℕ) →
     owed_under by setting memory [] (Halted regs stop) doom ≡ Idle
@@ -35,10 +34,12 @@ owed_idle (Some event.Drain) setting memory regs stop doom = refl
 owed_idle (Some (event.Abort by)) setting memory regs stop doom = refl
 
 module _ (setting : Setting) (now : Situation) (core : ℕ) (regs : Regs) (stop : Stop)
-    (halted : now.state.cores core ≡ Halted regs stop) (off : setting.store_buffer ≡ 0)
-    (left : now.state.pending core ≡ []) where
+    (halted : now.state.cores core ≡ Halted regs stop) (left : now.state.pending core ≡ []) where
   abbrev memory : List ℕ
   memory = now.state.memory
+
+  abbrev idle : Next
+  idle = (memory, ([], Halted regs stop))
 
   -- its own core is written as it was
   core_stays : (number : ℕ) (own : Bool) → nat_eq number core ≡ own
@@ -63,38 +64,43 @@ module _ (setting : Setting) (now : Situation) (core : ℕ) (regs : Regs) (stop 
       ap (λ (x : Core). doom_after_other setting seen (loads x) (writes x) (now.state.cores number) (now.doomed number))
       halted
       ∙ (ap (λ (l : List ℕ). doom_after_other setting seen [] l (now.state.cores number) (now.doomed number))
-      (written_is setting memory (now.state.pending core) (Halted regs stop) Idle off left)
+      (at_once (store_buffered setting (seen_by now.state core) (Halted regs stop) Idle) [] refl)
       ∙ untouched setting seen (now.state.cores number) (now.doomed number))
 
-  stays : moved setting now core Idle (memory, Halted regs stop) ≡ now
-  stays = same_situation (moved setting now core Idle (memory, Halted regs stop)) now refl refl
+  stays : moved setting now core Idle idle ≡ now
+  stays = same_situation (moved setting now core Idle idle) now refl refl
       (λ number. core_stays number (nat_eq number core) refl) (λ number. pending_stays now.state core number left)
       (λ number. doom_stays number (nat_eq number core) refl)
 
   idles : (by : Option Event) → nat_lt core now.state.count ≡ true
       → after_pick setting now (record { core = core; event = by }) ≡ Some now
   idles by below =
-      picks setting now (record { core = core; event = by }) Idle (memory, Halted regs stop) off left below
-      (ap (λ (x : Core). owed_under by setting memory [] x (now.doomed core)) halted
-      ∙ owed_idle by setting memory regs stop (now.doomed core))
-      (ap (λ (x : Core). after_step_of setting memory x Idle) halted)
+      picks setting now (record { core = core; event = by }) Idle idle below
+      (ap (λ (q : Pending). owed_under by setting memory q (now.state.cores core) (now.doomed core)) left
+      ∙ (ap (λ (x : Core). owed_under by setting memory [] x (now.doomed core)) halted
+      ∙ owed_idle by setting memory regs stop (now.doomed core)))
+      (ap (λ (q : Pending). after_step setting memory q (now.state.cores core) Idle) left
+      ∙ (ap (λ (x : Core). after_step setting memory [] x Idle) halted
+      ∙ settles memory (Halted regs stop) (store_buffered setting memory (Halted regs stop) Idle)
+      (Some (memory, Halted regs stop)) (unbuffered (nat_eq setting.store_buffer 0) None refl) refl))
       ∙ ap Some stays
 
--- a node leads to itself by a core that has stopped
+-- a node leads to itself by a core that has stopped and of which no store is pending
 pub leads_back : (trial : Trial) (schedules : List (List Pick)) (index : ℕ) (place : Place) (pick : Pick) →
     pick.core < length trial.program.now.entries → IsAt trial place (schedule_at schedules index) →
-    has_stopped (view_at place.machine pick.core).mode ≡ true → LeadsAlong trial schedules index pick index
-leads_back trial schedules index place pick is_core at stopped = λ now leads.
+    has_stopped (view_at place.machine pick.core).mode ≡ true → pending_at place.machine pick.core ≡ [] →
+    LeadsAlong trial schedules index pick index
+leads_back trial schedules index place pick is_core at stopped none = λ now leads.
     let setting : Setting = trial_setting trial in
     let stands = leads_stands trial schedules index place now at leads in
     let below : pick.core < now.state.count = (let count = leads.count in omega arith) in
-    let left : now.state.pending pick.core ≡ [] = leads_none trial schedules index now leads pick.core below in
+    let here : pick.core < length place.machine.views = (let count = at.count in omega arith) in
+    let left : now.state.pending pick.core ≡ [] = sym (stands.same_pending pick.core here) ∙ none in
     let halted = halted_is setting (seen_by now.state pick.core) (now.state.cores pick.core) (now.doomed pick.core)
-    (view_at place.machine pick.core)
-    (shows place.machine setting now at.rules stands pick.core (let count = at.count in omega arith)) stopped in
+    (view_at place.machine pick.core) (shows place.machine setting now at.rules stands pick.core here) stopped in
     record {
       next = now;
-      is_next = idles setting now pick.core halted.0 halted.1.0 halted.1.1 refl left pick.event
+      is_next = idles setting now pick.core halted.0 halted.1.0 halted.1.1 left pick.event
           (lt-ltb pick.core now.state.count below);
       rest = [];
       end = now;

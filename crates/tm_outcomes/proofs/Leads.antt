@@ -1,23 +1,26 @@
 -- Nodes, and the situations that their schedules lead to.
-use Rattle.std.proofs.Common.{◌≡◌, ℕ, ◌<◌, List, [], Some, None, false, true, length, sym, ap, ◌∙◌, subst, arith}
+use Rattle.std.proofs.Common.{◌≡◌, ℕ, ◌<◌, List, Some, false, true, length, sym, ap, ◌∙◌, subst, arith}
 use Rattle.std.specs.Prelude.{option_map}
 use Rattle.tm_core.specs.Theorem.{ShownMachine, StandsFor, machine_setting, pending_at, view_at}
-use Rattle.tm_model.proofs.NonePending.{owed_is, seen_is}
 use Rattle.tm_model.specs.Setting.{Setting}
-use Rattle.tm_model.specs.Shown.{view_of}
-use Rattle.tm_model.specs.State.{Core, seen_by}
+use Rattle.tm_model.specs.Shown.{View, view_of}
+use Rattle.tm_model.specs.State.{Pending, seen_by}
 use Rattle.tm_model.specs.Steps.{step}
+use Rattle.tm_model.specs.declared.outcome.Event.{Event}
+use Rattle.tm_model.specs.declared.outcome.Event.TheVariants as event
 use Rattle.tm_model.specs.declared.outcome.Outcome.{Outcome}
 use Rattle.tm_model.specs.declared.outcome.Pick.{Pick}
-use Rattle.tm_outcomes.specs.Nodes.{IsOpenBehind, IsUntouched, LeadsTo, schedule_at}
+use Rattle.tm_outcomes.specs.Following.{AreKnownAt, befalls}
+use Rattle.tm_outcomes.specs.Nodes.{BefallsBehind, IsTree, IsUntouchedBehind, LeadsTo, schedule_at}
 use Rattle.tm_outcomes.specs.Verdicts.{AreSame}
-use Rattle.tm_outcomes.specs.Outcomes.{IsOpen, trial_setting}
-use Rattle.tm_outcomes.specs.Places.{AreAlike, IsAt, is_open}
-use Rattle.tm_outcomes.specs.Schedules.{Situation, with_state}
+use Rattle.tm_outcomes.specs.Outcomes.{Befalls, trial_opening, trial_setting}
+use Rattle.tm_outcomes.specs.Places.{AreAlike, IsAt, are_pending, is_open}
+use Rattle.tm_outcomes.specs.Schedules.{Situation, after_schedule, with_state}
+use Rattle.tm_outcomes.specs.declared.nodes.Node.{Node}
 use Rattle.tm_outcomes.specs.declared.place.Place.{Place}
+use Rattle.tm_outcomes.specs.declared.searching.Followed.{Followed}
 use Rattle.tm_outcomes.specs.declared.trial.Trial.{Trial}
-use Rattle.tm_outcomes.proofs.NonePending.{leads_none}
-use Rattle.tm_outcomes.proofs.Shown.{open_is, same_under}
+use Rattle.tm_outcomes.proofs.Shown.{befallen, befalls_shown, same_under}
 use Rattle.tm_outcomes.proofs.Somes.{same_in}
 
 -- what a machine shows, under the rules of its trial
@@ -69,13 +72,13 @@ stands_leads trial schedules index place now within at stands = record {
   };
 }
 
--- and for all that it leads to
-pub leads_stands : (trial : Trial) (schedules : List (List Pick)) (index : ℕ) (place : Place) (now : Situation) →
-    IsAt trial place (schedule_at schedules index) → LeadsTo trial schedules index now
-    → StandsFor place.machine now.state now.doomed
-leads_stands trial schedules index place now at leads =
-    let end : at.now ≡ leads.end = same_in (sym at.is_run ∙ leads.is_run) in
-    let same : AreSame trial at.now now = subst (λ (x : Situation). AreSame trial x now) (sym end) leads.same in
+-- and for all that is shown alike
+pub stands_same : (trial : Trial) (schedule : List Pick) (place : Place) (end now : Situation) →
+    IsAt trial place schedule → after_schedule (trial_setting trial) (trial_opening trial) schedule ≡ Some end →
+    AreSame trial end now → StandsFor place.machine now.state now.doomed
+stands_same trial schedule place end now at is_run alike =
+    let same : AreSame trial at.now now =
+    subst (λ (x : Situation). AreSame trial x now) (same_in (sym is_run ∙ at.is_run)) alike in
     stands_by place.machine (trial_setting trial) now at.rules (at.stands.same_memory ∙ same.memory)
     (at.stands.same_count ∙ same.count)
     (λ core below.
@@ -83,6 +86,13 @@ leads_stands trial schedules index place now at leads =
     ∙ shows place.machine (trial_setting trial) at.now at.rules at.stands core below)
     (λ core below.
     at.stands.same_pending core below ∙ same.pending core (let e = at.stands.same_count in omega arith))
+
+-- so for all that a node leads to
+pub leads_stands : (trial : Trial) (schedules : List (List Pick)) (index : ℕ) (place : Place) (now : Situation) →
+    IsAt trial place (schedule_at schedules index) → LeadsTo trial schedules index now
+    → StandsFor place.machine now.state now.doomed
+leads_stands trial schedules index place now at leads =
+    stands_same trial (schedule_at schedules index) place leads.end now at leads.is_run leads.same
 
 -- places that are alike stand for the same
 pub alike_stands : (trial : Trial) (a b : Place) (s t : List Pick) (now : Situation) → IsAt trial a s → IsAt trial b t
@@ -98,33 +108,51 @@ alike_stands trial a b s t now at other alike stands =
     let here : core < length a.machine.views = (let e = alike.count in omega arith) in
     sym (alike.pending core here) ∙ stands.same_pending core here)
 
--- the step of a core that no event aborts is under each what it is under none
-pub untouched_at : (trial : Trial) (schedules : List (List Pick)) (index : ℕ) (place : Place) (core : ℕ) →
-    core < length trial.program.now.entries → IsAt trial place (schedule_at schedules index) →
-    is_open (view_at place.machine core).mode ≡ false → IsUntouched trial schedules index core
-untouched_at trial schedules index place core is_core at closed = λ now leads by.
+-- the step of a core that an event does not befall is under it what it is under none
+pub untouched_at : (trial : Trial) (schedule : List Pick) (place : Place) (core : ℕ) (by : Event) →
+    core < length trial.program.now.entries → IsAt trial place schedule →
+    befalls_shown by (view_at place.machine core).mode (pending_at place.machine core) ≡ false →
+    IsUntouchedBehind trial schedule core by
+untouched_at trial schedule place core by is_core at not_befallen = λ end now is_run same.
     let setting : Setting = trial_setting trial in
-    let stands = leads_stands trial schedules index place now at leads in
+    let stands = stands_same trial schedule place end now at is_run same in
     let below : core < length place.machine.views = (let count = at.count in omega arith) in
-    let memory : List ℕ = now.state.memory in
-    let own : Core = now.state.cores core in
-    let left : now.state.pending core ≡ [] =
-    leads_none trial schedules index now leads core (let count = stands.same_count in omega arith) in
-    let shown : view_of setting memory own (now.doomed core) ≡ Some (view_at place.machine core) =
-    subst (λ (seen : List ℕ). view_of setting seen own (now.doomed core) ≡ Some (view_at place.machine core))
-    (seen_is now.state core left) (shows place.machine setting now at.rules stands core below) in
+    let view : View = view_at place.machine core in
     ap (λ (o : Outcome). option_map (with_state setting now core o) (step setting now.state core o))
-    (owed_is (Some by) setting memory (now.state.pending core) own (now.doomed core) left
-    ∙ (same_under by setting memory own (now.doomed core) (view_at place.machine core) shown closed
-    ∙ sym (owed_is None setting memory (now.state.pending core) own (now.doomed core) left)))
+    (same_under by setting now.state.memory (seen_by now.state core) (now.state.pending core) (now.state.cores core)
+    (now.doomed core) view (shows place.machine setting now at.rules stands core below)
+    (subst (λ (q : Pending). befalls_shown by view.mode q ≡ false) (stands.same_pending core below) not_befallen))
 
--- a core that an event aborts at the end of a schedule
-pub opened_at : (trial : Trial) (schedule : List Pick) (place : Place) (core : ℕ)
-    → core < length trial.program.now.entries →
-    IsAt trial place schedule → is_open (view_at place.machine core).mode ≡ true → IsOpenBehind trial schedule core
-opened_at trial schedule place core is_core at opened = λ now is_run.
+-- and one that it befalls
+pub befallen_at : (trial : Trial) (schedule : List Pick) (place : Place) (core : ℕ) (by : Event) →
+    core < length trial.program.now.entries → IsAt trial place schedule →
+    befalls_shown by (view_at place.machine core).mode (pending_at place.machine core) ≡ true →
+    BefallsBehind trial schedule (record { core = core; event = Some by })
+befallen_at trial schedule place core by is_core at befalls = λ now is_run.
     let below : core < length place.machine.views = (let count = at.count in omega arith) in
-    subst (λ (x : Situation). IsOpen (x.state.cores core) (x.doomed core)) (same_in (sym at.is_run ∙ is_run))
-    (open_is (trial_setting trial) (seen_by at.now.state core) (at.now.state.cores core) (at.now.doomed core)
-    (view_at place.machine core)
-    (shows place.machine (trial_setting trial) at.now at.rules at.stands core below) opened)
+    let view : View = view_at place.machine core in
+    subst (λ (x : Situation). Befalls (Some by) (x.state.pending core) (x.state.cores core) (x.doomed core))
+    (same_in (sym at.is_run ∙ is_run))
+    (befallen by (trial_setting trial) (seen_by at.now.state core) (at.now.state.pending core) (at.now.state.cores core)
+    (at.now.doomed core) view (shows place.machine (trial_setting trial) at.now at.rules at.stands core below)
+    (subst (λ (q : Pending). befalls_shown by view.mode q ≡ true) (at.stands.same_pending core below) befalls))
+
+-- so it is known of each event by what was asked of the place
+pub known_at : (trial : Trial) (nodes : List Node) (index core : ℕ) (place : Place) (followed : Followed) →
+    core < length trial.program.now.entries →
+    ((schedules : List (List Pick)) → IsTree trial nodes schedules → IsAt trial place (schedule_at schedules index)) →
+    followed.was_open ≡ is_open (view_at place.machine core).mode →
+    followed.had_pending ≡ are_pending (pending_at place.machine core) →
+    AreKnownAt trial nodes index core followed
+known_at trial nodes index core place followed is_core at opened drains = record {
+  untouched = λ by none schedules tree.
+      untouched_at trial (schedule_at schedules index) place core by is_core (at schedules tree)
+      (sym (told by) ∙ none);
+  befallen = λ by some schedules tree.
+      befallen_at trial (schedule_at schedules index) place core by is_core (at schedules tree) (sym (told by) ∙ some);
+}
+  where
+    told : (by : Event)
+        → befalls followed by ≡ befalls_shown by (view_at place.machine core).mode (pending_at place.machine core)
+    told (event.Abort by) = opened
+    told event.Drain = drains

@@ -1,5 +1,5 @@
--- Situations in which no store is pending, as each is that a schedule of a trial leads to.
-use Rattle.std.proofs.Common.{◌≡◌, ℕ, ◌<◌, List, [], ◌∷◌, Option, Some, None, refl, sym, ◌∙◌, subst, arith}
+-- Situations in which no store is pending, as each is that a schedule of a trial leads to where none may be.
+use Rattle.std.proofs.Common.{◌≡◌, ◌<◌, List, [], ◌∷◌, Option, Some, None, refl, subst}
 use Rattle.std.specs.Prelude.{option_map}
 use Rattle.std.proofs.lemmas.Option.{option_and_then_some}
 use Rattle.tm_model.proofs.NonePending.{NonePending, none_at_first, none_behind, within}
@@ -7,7 +7,6 @@ use Rattle.tm_model.specs.Setting.{Setting}
 use Rattle.tm_model.specs.State.{State}
 use Rattle.tm_model.specs.Steps.{step}
 use Rattle.tm_model.specs.declared.outcome.Pick.{Pick}
-use Rattle.tm_outcomes.specs.Nodes.{LeadsTo, schedule_at}
 use Rattle.tm_outcomes.specs.Outcomes.{trial_opening, trial_setting}
 use Rattle.tm_outcomes.specs.Schedules.{Situation, after_pick, after_schedule, owed_by, with_state}
 use Rattle.tm_outcomes.specs.declared.trial.Trial.{Trial}
@@ -26,7 +25,7 @@ core_within setting now next pick = on (step setting now.state pick.core (owed_b
     on (Some state) is e = within setting now.state pick.core (owed_by setting now pick) state is
     on None is e = cc
 
-pub none_pick : (setting : Setting) (now next : Situation) (pick : Pick) → setting.store_buffer ≡ 0 →
+none_pick : (setting : Setting) (now next : Situation) (pick : Pick) → setting.store_buffer ≡ 0 →
     NonePending now.state → after_pick setting now pick ≡ Some next → NonePending next.state
 none_pick setting now next pick off none = on (step setting now.state pick.core (owed_by setting now pick)) refl
   where
@@ -47,15 +46,7 @@ none_schedule setting (pick ∷ picks) now end off none e =
     option_and_then_some (λ (next : Situation). after_schedule setting next picks) (after_pick setting now pick) end e
     (λ next is rest. none_schedule setting picks next end off (none_pick setting now next pick off none is) rest)
 
-pub none_reached : (trial : Trial) (schedule : List Pick) (now : Situation) →
+pub none_reached : (trial : Trial) (schedule : List Pick) (now : Situation) → trial.limits.stores ≡ 0 →
     after_schedule (trial_setting trial) (trial_opening trial) schedule ≡ Some now → NonePending now.state
-none_reached trial schedule now e =
-    none_schedule (trial_setting trial) schedule (trial_opening trial) now refl (none_at_first trial.program.now) e
-
--- and what goes on alike
-pub leads_none : (trial : Trial) (schedules : List (List Pick)) (index : ℕ) (now : Situation) →
-    LeadsTo trial schedules index now → NonePending now.state
-leads_none trial schedules index now leads = λ core below.
-    let first : core < leads.end.state.count = (let e = leads.same.count in omega arith) in
-    sym (leads.same.pending core first)
-    ∙ none_reached trial (schedule_at schedules index) leads.end leads.is_run core first
+none_reached trial schedule now off e =
+    none_schedule (trial_setting trial) schedule (trial_opening trial) now off (none_at_first trial.program.now) e

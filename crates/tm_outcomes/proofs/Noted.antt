@@ -1,5 +1,6 @@
 -- The lines that are noted before a step cover what the step stores to.
-use Rattle.std.proofs.Common.{◌≡◌, inr, ℕ, suc, ◌<◌, ◌/◌, Bool, true, false, cond, List, [], Option, Some, None, get_or}
+use Rattle.std.proofs.Common.{◌≡◌, ◌⊎◌, inl, inr, ℕ, suc, ◌<◌, ◌/◌, Bool, true, false, cond, List, [], ◌∷◌, Option}
+use Rattle.std.proofs.Common.{Some, None, get_or}
 use Rattle.std.proofs.Common.{length, map}
 use Rattle.std.proofs.Common.{refl, sym, ap, ◌∙◌, subst}
 use Rattle.std.specs.Prelude.{Contains, nat_eq, option_and_then, option_map, slice_index}
@@ -10,19 +11,24 @@ use Rattle.std.proofs.lemmas.List.{get_or-map, get_or_default, length-map}
 use Rattle.std.proofs.lemmas.List.Folds.{Any-from_list_any, list_any_at}
 use Rattle.ia_regs.specs.declared.Regs.{Regs}
 use Rattle.ia_word.specs.Line.{line}
+use Rattle.ia_word.specs.Operand.{operand_bytes, placed_bytes}
+use Rattle.ia_word.specs.declared.width.Width.{Width}
+use Rattle.ia_word.specs.declared.width.Width.TheVariants.{B, D}
 use Rattle.tm_rule.specs.declared.kinds.OutsideResult.{OutsideResult}
 use Rattle.tm_rule.specs.declared.kinds.OutsideResult.TheVariants.{Goes, Begins, Stops}
 use Rattle.tm_rule.specs.declared.kinds.Stop.{Stop}
 use Rattle.tm_core.specs.Reopening.{IsSameElsewhere}
-use Rattle.tm_model.specs.Access.{Lines, lines_of, memory_after, stored_addresses}
+use Rattle.tm_model.specs.Access.{Lines, addresses_of, lines_of, loaded_addresses, memory_after, stored_addresses}
+use Rattle.tm_model.specs.Access.{stores_of}
+use Rattle.tm_model.specs.Conflicts.{addresses_drained}
 use Rattle.tm_model.specs.Explained.{addresses_stored_at}
 use Rattle.tm_model.specs.Isolated.{Body, isolated_body, write_set}
-use Rattle.tm_model.proofs.NonePending.{PlainStep, owed_is, plain_step}
 use Rattle.tm_model.specs.Owed.{owed_outcome, owed_under}
 use Rattle.tm_model.specs.Setting.{Setting, outside_at, value_at}
 use Rattle.tm_model.specs.Shown.{View, view_inside, view_midway, view_of, view_of_body, view_outside}
-use Rattle.tm_model.specs.State.{Closed, Core, Halted, Midway, Opened, State}
-use Rattle.tm_model.specs.Steps.{after_load, after_plain, after_step_of, step}
+use Rattle.tm_model.specs.State.{Closed, Core, Halted, Midway, Opened, Pending, with_store}
+use Rattle.tm_model.specs.Steps.{Next, after_load, after_plain, after_step, after_step_of, settled}
+use Rattle.tm_model.specs.Types.{Store}
 use Rattle.tm_model.specs.declared.outcome.Event.{Event}
 use Rattle.tm_model.specs.declared.outcome.Event.TheVariants as event
 use Rattle.tm_model.specs.declared.outcome.CoreState.{CoreState}
@@ -32,7 +38,9 @@ use Rattle.tm_model.specs.declared.outcome.Outcome.TheVariants.{Plain, Loaded, S
 use Rattle.tm_model.specs.declared.outcome.Outcome.TheVariants.{Committed, Aborted, AbortedBy, Drained}
 use Rattle.tm_model.specs.declared.outcome.Pick.{Pick}
 use Rattle.tm_outcomes.specs.Places.{is_open}
-use Rattle.tm_outcomes.specs.Schedules.{Situation, after_pick, owed_by, with_state}
+use Rattle.tm_outcomes.specs.Schedules.{Situation, after_pick, owed_by}
+use Rattle.tm_outcomes.specs.Written.{StoresOn}
+use Rattle.tm_outcomes.proofs.Crossing.{picked}
 use Rattle.tm_outcomes.proofs.Somes.{same_in}
 use Rattle.tm_outcomes.proofs.Stored.{IsCommit, IsSameBut, Made, before_commit, begun, committed, else_of, halted}
 use Rattle.tm_outcomes.proofs.Stored.{keeps}
@@ -40,7 +48,7 @@ use Rattle.tm_outcomes.proofs.Stored.{left, loaded, on_lines, plain, stored, the
 
 -- ---- by the core
 
-untouched : (lines memory other : List ℕ) → memory ≡ other → IsSameElsewhere lines memory other
+pub untouched : (lines memory other : List ℕ) → memory ≡ other → IsSameElsewhere lines memory other
 untouched lines memory other e =
     record { count = ap length e; same = λ address. inr (ap (λ (m : List ℕ). slice_index m address) e) }
 
@@ -246,34 +254,130 @@ reach_noted (Some (event.Abort by)) setting memory (Opened regs steps) (Some dep
 reach_noted by setting memory (Opened regs steps) None view shown closes made e =
     absurd (false≢true (sym closes ∙ open_mode regs (isolated_body setting regs memory steps) view shown))
 
--- ---- a step of a situation
+-- ---- a step of a core of which no store is pending
 
-pub record IsMadeBy (setting : Setting) (now next : Situation) (core : ℕ) (outcome : Outcome) : Type 0 where
-  pub made : Made
-  pub is_made : after_step_of setting now.state.memory (now.state.cores core) outcome ≡ Some made
-  pub memory : next.state.memory ≡ made.0
+-- memory stays, as what is stored is pending then, or it is what the step makes of it
+pub data IsMadeOn (setting : Setting) (memory : List ℕ) (core : Core) (outcome : Outcome) (after : List ℕ)
+    : Type 0 where
+  stays : after ≡ memory → IsMadeOn setting memory core outcome after
+  makes : (made : Made) → after_step_of setting memory core outcome ≡ Some made → after ≡ made.0
+      → IsMadeOn setting memory core outcome after
 
-made_by : (setting : Setting) (now next : Situation) (core : ℕ) (outcome : Outcome) (after : Option State) →
-    setting.store_buffer ≡ 0 → now.state.pending core ≡ [] → step setting now.state core outcome ≡ after →
-    option_map (with_state setting now core outcome) after ≡ Some next → IsMadeBy setting now next core outcome
-made_by setting now next core outcome (Some state) off left is_step e =
-    let made : PlainStep setting now.state core outcome state =
-    plain_step setting now.state core outcome state off left is_step in
-    record {
-      made = made.change;
-      is_made = made.is;
-      memory = ap (λ (x : Situation). x.state.memory) (sym (same_in e)) ∙ ap (λ (x : State). x.memory) (sym made.gives);
-    }
-made_by setting now next core outcome None off left is_step e = absurd (cc)
+settled_on : (setting : Setting) (memory : List ℕ) (core : Core) (outcome : Outcome) (store : Option Store)
+    (change : Option Made) (to : Next) → after_step_of setting memory core outcome ≡ change →
+    option_map (settled memory [] store) change ≡ Some to → IsMadeOn setting memory core outcome to.0
+settled_on setting memory core outcome (Some store) (Some change) to is e =
+    stays (ap (λ (x : Next). x.0) (sym (same_in e)))
+settled_on setting memory core outcome None (Some change) to is e =
+    makes change is (ap (λ (x : Next). x.0) (sym (same_in e)))
+settled_on setting memory core outcome store None to is e = absurd (cc)
 
--- where no store of the core is pending
+made_on : (setting : Setting) (memory : List ℕ) (core : Core) (outcome : Outcome) (to : Next) →
+    after_step setting memory [] core outcome ≡ Some to → IsMadeOn setting memory core outcome to.0
+made_on setting memory core Drained to e = absurd (cc)
+made_on setting memory core Plain to e = settled_on setting memory core Plain _ _ to refl e
+made_on setting memory core Loaded to e = settled_on setting memory core Loaded _ _ to refl e
+made_on setting memory core (Stopped stop) to e = settled_on setting memory core (Stopped stop) _ _ to refl e
+made_on setting memory core Idle to e = settled_on setting memory core Idle _ _ to refl e
+made_on setting memory core Begun to e = settled_on setting memory core Begun _ _ to refl e
+made_on setting memory core Inside to e = settled_on setting memory core Inside _ _ to refl e
+made_on setting memory core Committed to e = settled_on setting memory core Committed _ _ to refl e
+made_on setting memory core (Aborted status) to e = settled_on setting memory core (Aborted status) _ _ to refl e
+made_on setting memory core (AbortedBy by status) to e =
+    settled_on setting memory core (AbortedBy by status) _ _ to refl e
+
 pub step_made : (setting : Setting) (now next : Situation) (core : ℕ) (by : Option Event) →
-    setting.store_buffer ≡ 0 → now.state.pending core ≡ [] →
-    after_pick setting now (record { core = core; event = by }) ≡ Some next →
-    IsMadeBy setting now next core (owed_under by setting now.state.memory [] (now.state.cores core) (now.doomed core))
-step_made setting now next core by off left e =
+    now.state.pending core ≡ [] → after_pick setting now (record { core = core; event = by }) ≡ Some next →
+    IsMadeOn setting now.state.memory (now.state.cores core)
+    (owed_under by setting now.state.memory [] (now.state.cores core) (now.doomed core)) next.state.memory
+step_made setting now next core by left e =
     let pick : Pick = record { core = core; event = by } in
-    let outcome : Outcome = owed_by setting now pick in
-    subst (λ (o : Outcome). IsMadeBy setting now next core o)
-    (owed_is by setting now.state.memory (now.state.pending core) (now.state.cores core) (now.doomed core) left)
-    (made_by setting now next core outcome (step setting now.state core outcome) off left refl e)
+    let memory : List ℕ = now.state.memory in
+    let own : Core = now.state.cores core in
+    let step = picked setting now next pick e in
+    let owed : owed_by setting now pick ≡ owed_under by setting memory [] own (now.doomed core) =
+    ap (λ (q : Pending). owed_under by setting memory q own (now.doomed core)) left in
+    let goes : after_step setting memory [] own (owed_under by setting memory [] own (now.doomed core)) ≡ Some step.to =
+    ap (after_step setting memory [] own) (sym owed)
+    ∙ (ap (λ (q : Pending). after_step setting memory q own (owed_by setting now pick)) (sym left) ∙ step.is_to) in
+    subst (λ (after : List ℕ).
+    IsMadeOn setting memory own (owed_under by setting memory [] own (now.doomed core)) after)
+    (ap (λ (x : Situation). x.state.memory) (sym step.is_next))
+    (made_on setting memory own (owed_under by setting memory [] own (now.doomed core)) step.to goes)
+
+-- ---- a step of a core of which a store is pending
+
+-- memory stays, or the oldest store reaches it
+settled_behind : (memory : List ℕ) (oldest : Store) (younger : Pending) (waits : Bool) (store : Option Store)
+    (change : Option Made) (to : Next) →
+    cond waits None (option_map (settled memory (oldest ∷ younger) store) change) ≡ Some to → to.0 ≡ memory
+settled_behind memory oldest younger true store change to e = absurd (cc)
+settled_behind memory oldest younger false (Some store) (Some change) to e =
+    ap (λ (x : Next). x.0) (sym (same_in e))
+settled_behind memory oldest younger false None (Some change) to e = ap (λ (x : Next). x.0) (sym (same_in e))
+settled_behind memory oldest younger false store None to e = absurd (cc)
+
+made_behind : (setting : Setting) (memory : List ℕ) (oldest : Store) (younger : Pending) (core : Core)
+    (outcome : Outcome) (to : Next) → after_step setting memory (oldest ∷ younger) core outcome ≡ Some to →
+    (to.0 ≡ memory) ⊎ (to.0 ≡ with_store memory oldest)
+made_behind setting memory oldest younger core Drained to e = inr (ap (λ (x : Next). x.0) (sym (same_in e)))
+made_behind setting memory oldest younger core Plain to e = inl (settled_behind memory oldest younger _ _ _ to e)
+made_behind setting memory oldest younger core Loaded to e = inl (settled_behind memory oldest younger _ _ _ to e)
+made_behind setting memory oldest younger core (Stopped stop) to e =
+    inl (settled_behind memory oldest younger _ _ _ to e)
+made_behind setting memory oldest younger core Idle to e = inl (settled_behind memory oldest younger _ _ _ to e)
+made_behind setting memory oldest younger core Begun to e = inl (settled_behind memory oldest younger _ _ _ to e)
+made_behind setting memory oldest younger core Inside to e = inl (settled_behind memory oldest younger _ _ _ to e)
+made_behind setting memory oldest younger core Committed to e = inl (settled_behind memory oldest younger _ _ _ to e)
+made_behind setting memory oldest younger core (Aborted status) to e =
+    inl (settled_behind memory oldest younger _ _ _ to e)
+made_behind setting memory oldest younger core (AbortedBy by status) to e =
+    inl (settled_behind memory oldest younger _ _ _ to e)
+
+-- so the lines of the oldest are all that it can store to
+pub pending_noted : (setting : Setting) (lines : List ℕ) (now : Situation) (core : ℕ) (oldest : Store)
+    (younger : Pending) → now.state.pending core ≡ oldest ∷ younger →
+    ((address : ℕ) → Contains (addresses_drained (oldest ∷ younger)) address → Contains lines (address / 64)) →
+    StoresOn setting lines now core
+pending_noted setting lines now core oldest younger is all event next e =
+    let pick : Pick = record { core = core; event = event } in
+    let memory : List ℕ = now.state.memory in
+    let step = picked setting now next pick e in
+    let goes : after_step setting memory (oldest ∷ younger) (now.state.cores core) (owed_by setting now pick)
+    ≡ Some step.to =
+    ap (λ (q : Pending). after_step setting memory q (now.state.cores core) (owed_by setting now pick)) (sym is)
+    ∙ step.is_to in
+    subst (λ (after : List ℕ). IsSameElsewhere lines after memory)
+    (ap (λ (x : Situation). x.state.memory) (sym step.is_next))
+    (elim (made_behind setting memory oldest younger (now.state.cores core) (owed_by setting now pick) step.to goes) [
+      | inl same ↦ untouched lines step.to.0 memory same
+      | inr drains ↦
+          subst (λ (after : List ℕ). IsSameElsewhere lines after memory) (sym drains)
+          (on_lines (addresses_drained (oldest ∷ younger)) lines (with_store memory oldest) memory
+          (stored memory (stores_of (Some oldest))) all)
+    ])
+
+-- they are those of a load of as many bytes
+pub drained_is : (oldest : Store) (younger : Pending) → addresses_drained (oldest ∷ younger)
+    ≡ loaded_addresses (Some (record { addr = oldest.addr; width = oldest.width }))
+drained_is oldest younger = by_width oldest.width oldest.addr oldest.value
+  where
+    by_width : (width : Width) (addr value : ℕ)
+        → stored_addresses (placed_bytes addr (operand_bytes width value)) ≡ addresses_of addr width
+    by_width B addr value = refl
+    by_width D addr value = refl
+
+-- ---- all that is noted before a step
+
+-- lines that were noted for what is pending, and then for a step with none pending
+pub both_noted : (setting : Setting) (lines : List ℕ) (now : Situation) (core : ℕ) →
+    ((address : ℕ) → Contains (addresses_drained (now.state.pending core)) address → Contains lines (address / 64)) →
+    (now.state.pending core ≡ [] → StoresOn setting lines now core) → StoresOn setting lines now core
+both_noted setting lines now core drained alone = by_pending (now.state.pending core) refl
+  where
+    by_pending : (pending : Pending) → now.state.pending core ≡ pending → StoresOn setting lines now core
+    by_pending [] is = alone is
+    by_pending (oldest ∷ younger) is =
+        pending_noted setting lines now core oldest younger is
+        (subst (λ (q : Pending). (address : ℕ) → Contains (addresses_drained q) address
+        → Contains lines (address / 64)) is drained)

@@ -1,5 +1,6 @@
 -- What is shown of a core tells what the core is.
-use Rattle.std.proofs.Common.{◌≡◌, ℕ, Bool, true, false, cond, List, [], Option, Some, None, refl, sym, ap, ◌∙◌, subst}
+use Rattle.std.proofs.Common.{◌≡◌, ℕ, Bool, true, false, cond, List, [], ◌∷◌, Option, Some, None, refl, sym, ap, ◌∙◌}
+use Rattle.std.proofs.Common.{subst}
 use Rattle.std.specs.Prelude.{option_and_then, nat_eq}
 use Rattle.tm_outcomes.proofs.Somes.{same_in}
 use Rattle.ia_regs.specs.declared.Regs.{Regs}
@@ -11,13 +12,14 @@ use Rattle.tm_model.specs.Isolated.{Body, isolated_body}
 use Rattle.tm_model.specs.Owed.{owed_under}
 use Rattle.tm_model.specs.Setting.{Setting}
 use Rattle.tm_model.specs.Shown.{View, view_inside, view_midway, view_of, view_of_body, view_outside}
-use Rattle.tm_model.specs.State.{Closed, Core, Halted, Midway, Opened}
+use Rattle.tm_model.specs.State.{Closed, Core, Halted, Midway, Opened, Pending}
 use Rattle.tm_model.specs.declared.outcome.Event.{Event}
 use Rattle.tm_model.specs.declared.outcome.Event.TheVariants as event
+use Rattle.tm_model.specs.declared.outcome.Interference.{Interference}
 use Rattle.tm_model.specs.declared.outcome.CoreState.{CoreState}
 use Rattle.tm_model.specs.declared.outcome.CoreState.TheVariants.{Running, Mid, Open, Condemned, Stopped as AtStop}
-use Rattle.tm_outcomes.specs.Outcomes.{IsOpen, regs_of}
-use Rattle.tm_outcomes.specs.Places.{has_stopped, is_open}
+use Rattle.tm_outcomes.specs.Outcomes.{Befalls, regs_of}
+use Rattle.tm_outcomes.specs.Places.{are_pending, has_stopped, is_open}
 use Rattle.tm_outcomes.specs.Verdicts.{HasStoppedBy}
 
 -- ---- each core's registers
@@ -139,30 +141,41 @@ by_stop setting memory (Opened regs steps) doom view why e halted =
 
 -- ---- cores that no event aborts
 
--- what a core owes under an event is what it owes under none, where it is in no transaction or is doomed, and there is
--- nothing to drain
-pub same_under : (by : Event) (setting : Setting) (memory : List ℕ) (core : Core) (doom : Option ℕ) (view : View) →
-    view_of setting memory core doom ≡ Some view → is_open view.mode ≡ false →
-    owed_under (Some by) setting memory [] core doom ≡ owed_under None setting memory [] core doom
-same_under event.Drain setting memory core doom view e closed = refl
-same_under (event.Abort by) setting memory (Opened regs steps) None view e closed =
-    let known = base_inside regs (isolated_body setting regs memory steps) view e in
+-- whether an event befalls a core that shows this, of which these stores are pending
+abbrev pub befalls_shown : Event → CoreState → Pending → Bool
+befalls_shown (event.Abort by) mode pending = is_open mode
+befalls_shown event.Drain mode pending = are_pending pending
+
+-- what a core owes under an event that does not befall it is what it owes under none
+pub same_under : (by : Event) (setting : Setting) (memory seen : List ℕ) (pending : Pending) (core : Core)
+    (doom : Option ℕ) (view : View) → view_of setting seen core doom ≡ Some view →
+    befalls_shown by view.mode pending ≡ false →
+    owed_under (Some by) setting memory pending core doom ≡ owed_under None setting memory pending core doom
+same_under event.Drain setting memory seen [] core doom view e closed = refl
+same_under event.Drain setting memory seen (oldest ∷ younger) core doom view e closed =
+    absurd (false≢true (sym closed))
+same_under (event.Abort by) setting memory seen pending (Opened regs steps) None view e closed =
+    let known = base_inside regs (isolated_body setting regs seen steps) view e in
     absurd (false≢true (sym closed ∙ ap is_open known.1.1))
-same_under (event.Abort by) setting memory (Opened regs steps) (Some depth) view e closed = refl
-same_under (event.Abort by) setting memory (Closed regs) doom view e closed = refl
-same_under (event.Abort by) setting memory (Midway regs value) doom view e closed = refl
-same_under (event.Abort by) setting memory (Halted regs stop) doom view e closed = refl
+same_under (event.Abort by) setting memory seen pending (Opened regs steps) (Some depth) view e closed = refl
+same_under (event.Abort by) setting memory seen pending (Closed regs) doom view e closed = refl
+same_under (event.Abort by) setting memory seen pending (Midway regs value) doom view e closed = refl
+same_under (event.Abort by) setting memory seen pending (Halted regs stop) doom view e closed = refl
 
 -- ---- cores that an event aborts
+
+-- what an abort from outside of the program befalls
+abbrev IsOpen : Core → Option ℕ → Type 0
+IsOpen core doom = (by : Interference) (pending : Pending) → Befalls (Some (event.Abort by)) pending core doom
 
 closed_mode : (core : Core) (doom : Option ℕ) (mode : CoreState) (view : View) → is_open mode ≡ false
     → view.mode ≡ mode →
     is_open view.mode ≡ true → IsOpen core doom
 closed_mode core doom mode view closed is opened = absurd (false≢true (sym closed ∙ (ap is_open (sym is) ∙ opened)))
 
-pub open_is : (setting : Setting) (memory : List ℕ) (core : Core) (doom : Option ℕ) (view : View) →
+open_is : (setting : Setting) (memory : List ℕ) (core : Core) (doom : Option ℕ) (view : View) →
     view_of setting memory core doom ≡ Some view → is_open view.mode ≡ true → IsOpen core doom
-open_is setting memory (Opened regs steps) None view e opened = tt
+open_is setting memory (Opened regs steps) None view e opened = λ by pending. tt
 open_is setting memory (Opened regs steps) (Some depth) view e opened =
     closed_mode (Opened regs steps) (Some depth) (Condemned depth) view refl
     (outside_mode (Condemned depth) regs view e) opened
@@ -176,6 +189,18 @@ open_is setting memory (Halted regs stop) None view e opened =
 open_is setting memory (Closed regs) (Some depth) view e opened = absurd (cc)
 open_is setting memory (Midway regs value) (Some depth) view e opened = absurd (cc)
 open_is setting memory (Halted regs stop) (Some depth) view e opened = absurd (cc)
+
+pub befallen : (by : Event) (setting : Setting) (seen : List ℕ) (pending : Pending) (core : Core) (doom : Option ℕ)
+    (view : View) → view_of setting seen core doom ≡ Some view → befalls_shown by view.mode pending ≡ true →
+    Befalls (Some by) pending core doom
+befallen event.Drain setting seen [] core doom view e befalls = absurd (false≢true befalls)
+befallen event.Drain setting seen (oldest ∷ younger) core doom view e befalls = tt
+befallen (event.Abort by) setting seen pending core doom view e befalls =
+    open_is setting seen core doom view e befalls by pending
+
+pub none_pending : (pending : Pending) → are_pending pending ≡ false → pending ≡ []
+none_pending [] none = refl
+none_pending (oldest ∷ younger) none = absurd (false≢true (sym none))
 
 -- a core that has stopped is in no transaction
 pub stopped_closed : (mode : CoreState) → has_stopped mode ≡ true → is_open mode ≡ false

@@ -5,7 +5,7 @@ use Rattle.std.proofs.lemmas.List.Elements.{All-head, All-tail}
 use Rattle.tm_model.specs.declared.outcome.Event.{Event}
 use Rattle.tm_model.specs.declared.outcome.Pick.{Pick}
 use Rattle.tm_outcomes.specs.Nodes.{IsNeededBehind}
-use Rattle.tm_outcomes.specs.Outcomes.{AreUsual, IsAllowed, IsOpen, IsSparing, SparesEvents, trial_opening}
+use Rattle.tm_outcomes.specs.Outcomes.{AreUsual, Befalls, IsAllowed, IsSparing, SparesEvents, trial_opening}
 use Rattle.tm_outcomes.specs.Outcomes.{trial_setting, usual_event}
 use Rattle.tm_outcomes.specs.Places.{IsAt}
 use Rattle.tm_outcomes.specs.Resting.{Advances}
@@ -56,10 +56,11 @@ pub sparing_advanced : (trial : Trial) (schedule : List Pick) (before after : Pl
     IsNeededBehind trial schedule pick → IsSparing trial (schedule ++ steps)
 sparing_advanced trial schedule before after pick steps at advances sparing needed =
     let now = at.now in
-    let first : (pick.event ≡ usual_event trial.events) ⊎ IsOpen (now.state.cores pick.core) (now.doomed pick.core) =
+    let first : (pick.event ≡ usual_event trial.events)
+    ⊎ Befalls pick.event (now.state.pending pick.core) (now.state.cores pick.core) (now.doomed pick.core) =
     elim needed [
       | inl usual ↦ inl usual
-      | inr open_behind ↦ inr (open_behind now at.is_run)
+      | inr behind ↦ inr (behind now at.is_run)
     ] in
     spare_then trial schedule steps (trial_opening trial) now sparing at.is_run
     (subst (λ (s : List Pick). SparesEvents trial now s) (sym advances.made)

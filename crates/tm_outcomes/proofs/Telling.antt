@@ -1,5 +1,5 @@
 -- What a search tells that is over, and one that is cut.
-use Rattle.std.proofs.Common.{◌≡◌, ℕ, ◌≤◌, List, Option, length, refl, sym, ap, ◌∙◌, subst, arith}
+use Rattle.std.proofs.Common.{◌≡◌, ℕ, ◌≤◌, List, Option, length, sym, ap, ◌∙◌, subst, arith}
 use Rattle.std.specs.Prelude.{All, IfSome}
 use Rattle.std.proofs.lemmas.Bool.{false≢true}
 use Rattle.tm_model.specs.declared.outcome.Pick.{Pick}
@@ -21,7 +21,6 @@ use Rattle.tm_outcomes.specs.declared.written.Written.{Written}
 use Rattle.tm_outcomes.proofs.Catching.{stays_stopped}
 use Rattle.tm_outcomes.proofs.Complete.{all_told, met, met_end}
 use Rattle.tm_outcomes.proofs.Kept.{are_different, has_found}
-use Rattle.tm_outcomes.proofs.NonePending.{none_reached}
 use Rattle.tm_outcomes.proofs.Ways.{has_states, is_cycle, is_free, is_stuck}
 
 module _ (trial : Trial) (most done : ℕ) (search : Searching) (schedules : List (List Pick)) (told : Search)
@@ -66,7 +65,7 @@ module _ (trial : Trial) (most done : ℕ) (search : Searching) (schedules : Lis
         no_stop = λ _ schedule now reached why asked stopped.
             let there = met trial most done search schedules searching whole schedule now reached in
             let stopped_there = stays_stopped (trial_setting trial) (IsAllowed trial.events) there.steps now there.end
-            why refl (none_reached trial schedule now reached.is_run) there.rests stopped in
+            why there.rests stopped in
             subst (λ (s : List ReachedStop). IsStopTold s why) stops
             ((searching.explored.shown there.index (let w = there.leads.within in omega arith)).stops there.end
             there.leads why asked

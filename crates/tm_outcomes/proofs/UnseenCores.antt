@@ -1,26 +1,30 @@
 -- An unseen step of a core is the same on any memory, touches none of it, and is hit by no step of another core, nor
 -- are the steps that follow it.
 use Rattle.std.proofs.Common.{◌≡◌, ℕ, Bool, true, false, cond, List, [], ◌∷◌, Option, Some, None, refl, sym, ap, ◌∙◌}
-use Rattle.std.specs.Prelude.{◌&&◌, ◌||◌}
+use Rattle.std.specs.Prelude.{◌&&◌, ◌||◌, nat_eq, option_map}
 use Rattle.std.specs.Ordering.{nat_cmp}
 use Rattle.std.specs.FinSet as set
 use Rattle.std.proofs.lemmas.Bool.{eq-eqb, false≢true}
 use Rattle.ia_regs.specs.declared.Regs.{Regs}
 use Rattle.ia_word.specs.Line.{line}
+use Rattle.ia_word.specs.Operand.{operand_bytes, placed_bytes}
+use Rattle.ia_word.specs.declared.width.Width.{Width}
+use Rattle.ia_word.specs.declared.width.Width.TheVariants.{B, D}
 use Rattle.tm_rule.specs.declared.kinds.OutsideResult.{OutsideResult}
 use Rattle.tm_rule.specs.declared.kinds.OutsideResult.TheVariants.{Goes, Begins, Stops}
 use Rattle.tm_rule.specs.declared.kinds.Stop.{Stop}
 use Rattle.tm_model.specs.Access.{Stores, bytes_at, have_line_of, lines_of, memory_after, stored_addresses, stores_of}
-use Rattle.tm_model.specs.Conflicts.{addresses_loaded_by, addresses_stored_by, addresses_stored_outside, depth_at_hit}
-use Rattle.tm_model.specs.Conflicts.{doom_after_other, doom_after_own}
+use Rattle.tm_model.specs.Conflicts.{addresses_at_once, addresses_loaded_by, addresses_stored_by}
+use Rattle.tm_model.specs.Conflicts.{addresses_stored_outside, addresses_written_by, depth_at_hit, doom_after_other}
+use Rattle.tm_model.specs.Conflicts.{doom_after_own}
 use Rattle.tm_model.specs.Explained.{addresses_stored_at}
 use Rattle.tm_model.specs.Isolated.{Body, first_body, isolated_body}
 use Rattle.tm_model.specs.Owed.{owed_outcome, owed_outside, owed_under, status_at}
-use Rattle.tm_model.specs.Types.{Conflict}
+use Rattle.tm_model.specs.Types.{Conflict, Store}
 use Rattle.tm_model.specs.Setting.{Setting, outside_at, value_at}
 use Rattle.tm_model.specs.State.{Closed, Core, Halted, Midway, Opened}
-use Rattle.tm_model.specs.Steps.{after_begin, after_load, after_plain, after_step_of, after_stop, registers_after_abort}
-use Rattle.tm_model.specs.Steps.{stop_number}
+use Rattle.tm_model.specs.Steps.{Change, after_begin, after_load, after_plain, after_step, after_step_of, after_stop}
+use Rattle.tm_model.specs.Steps.{registers_after_abort, settled, stop_number, store_buffered, store_of, store_outside}
 use Rattle.tm_model.specs.declared.outcome.Event.{Event}
 use Rattle.tm_model.specs.declared.outcome.Event.TheVariants as event
 use Rattle.tm_model.specs.declared.outcome.Outcome.{Outcome}
@@ -33,9 +37,9 @@ pub record IsUnseenStep (setting : Setting) (core : Core) (doom : Option ℕ) : 
   pub outcome : Outcome
   pub next : Core
   pub is_owed : (by : Option Event) (memory : List ℕ) → owed_under by setting memory [] core doom ≡ outcome
-  pub is_made : (memory : List ℕ) → after_step_of setting memory core outcome ≡ Some (memory, next)
+  pub is_made : (memory : List ℕ) → after_step setting memory [] core outcome ≡ Some (memory, ([], next))
   pub loads : (memory : List ℕ) → addresses_loaded_by setting memory core outcome ≡ []
-  pub stores : (memory : List ℕ) → addresses_stored_by setting memory core outcome ≡ []
+  pub writes : (memory : List ℕ) → addresses_written_by setting memory [] core outcome ≡ []
   pub before : (memory loads stores : List ℕ) → doom_after_other setting memory loads stores core doom ≡ doom
   pub after : (memory loads stores : List ℕ) →
       doom_after_other setting memory loads stores next (doom_after_own outcome doom) ≡ doom_after_own outcome doom
@@ -52,6 +56,30 @@ empty (address ∷ addresses) e = absurd (false≢true e)
 no_stores : (stores : Stores) → stored_addresses stores ≡ [] → stores ≡ []
 no_stores [] e = refl
 no_stores (store ∷ stores) e = absurd (cc)
+
+some_bytes : (width : Width) (addr value : ℕ) → placed_bytes addr (operand_bytes width value) ≡ [] → ⊥
+some_bytes B addr value e = cc
+some_bytes D addr value e = cc
+
+none_stored : (store : Option Store) → stores_of store ≡ [] → store ≡ None
+none_stored None e = refl
+none_stored (Some store) e = absurd (some_bytes store.width store.addr store.value e)
+
+-- ---- a step that stores nothing leaves memory, and nothing pending
+
+pub settles : (memory : List ℕ) (next : Core) (store : Option Store) (change : Change) → store ≡ None
+    → change ≡ Some (memory, next) → option_map (settled memory [] store) change ≡ Some (memory, ([], next))
+settles memory next store change none is =
+    ap (λ (w : Option Store). option_map (settled memory [] w) change) none
+    ∙ ap (option_map (settled memory [] None)) is
+
+pub unbuffered : (t : Bool) (store : Option Store) → store ≡ None → cond t None store ≡ None
+unbuffered true store none = refl
+unbuffered false store none = none
+
+pub at_once : (store : Option Store) (addresses : List ℕ) → addresses ≡ [] → addresses_at_once store addresses ≡ []
+at_once None addresses none = none
+at_once (Some store) addresses none = refl
 
 -- nothing lies on no line
 on_no_line : (addresses : List ℕ) → have_line_of (lines_of []) addresses ≡ false
@@ -113,9 +141,13 @@ module _ (setting : Setting) (regs : Regs) (loads_none : setting.load_of regs �
     outcome = Stopped stop;
     next = Halted regs stop;
     is_owed = λ by memory. owed_closed by memory ∙ ap (owed_outside (setting.takes_two_steps regs)) is;
-    is_made = λ memory. stops stop is memory;
+    is_made = λ memory. settles memory (Halted regs stop)
+        (store_buffered setting memory (Closed regs) (Stopped stop))
+        (after_step_of setting memory (Closed regs) (Stopped stop))
+        (unbuffered (nat_eq setting.store_buffer 0) None refl)
+        (stops stop is memory);
     loads = λ memory. refl;
-    stores = λ memory. refl;
+    writes = λ memory. at_once (store_buffered setting memory (Closed regs) (Stopped stop)) [] refl;
     before = λ memory loads stores. refl;
     after = λ memory loads stores. refl;
     still = still;
@@ -124,9 +156,11 @@ module _ (setting : Setting) (regs : Regs) (loads_none : setting.load_of regs �
     outcome = Begun;
     next = Opened regs 1;
     is_owed = λ by memory. owed_closed by memory ∙ ap (owed_outside (setting.takes_two_steps regs)) is;
-    is_made = λ memory. begins next is memory;
+    is_made = λ memory. settles memory (Opened regs 1) (store_buffered setting memory (Closed regs) Begun)
+        (after_step_of setting memory (Closed regs) Begun) (unbuffered (nat_eq setting.store_buffer 0) None refl)
+        (begins next is memory);
     loads = λ memory. refl;
-    stores = λ memory. refl;
+    writes = λ memory. at_once (store_buffered setting memory (Closed regs) Begun) [] refl;
     before = λ memory loads stores. refl;
     after = λ memory loads stores. begun_after next is memory loads stores;
     still = still;
@@ -137,12 +171,14 @@ module _ (setting : Setting) (regs : Regs) (loads_none : setting.load_of regs �
     is_owed = λ by memory. owed_closed by memory
         ∙ (ap (owed_outside (setting.takes_two_steps regs)) is ∙ ap (λ t. owed_outside t (Goes next store)) is_two);
     is_made = λ memory.
-        ap (λ t. cond t (after_load memory regs (value_at setting regs memory) (outside_at setting regs memory)) None)
+        settles memory (Midway regs (setting.value_of regs [])) (store_buffered setting memory (Closed regs) Loaded)
+        (after_step_of setting memory (Closed regs) Loaded) (unbuffered (nat_eq setting.store_buffer 0) None refl)
+        (ap (λ t. cond t (after_load memory regs (value_at setting regs memory) (outside_at setting regs memory)) None)
         is_two
         ∙ (ap (after_load memory regs (value_at setting regs memory)) (outside_is memory ∙ is)
-        ∙ ap (λ v. Some (memory, Midway regs v)) (value_is memory));
+        ∙ ap (λ v. Some (memory, Midway regs v)) (value_is memory)));
     loads = λ memory. loads_none;
-    stores = λ memory. refl;
+    writes = λ memory. at_once (store_buffered setting memory (Closed regs) Loaded) [] refl;
     before = λ memory loads stores. refl;
     after = λ memory loads stores. refl;
     still = still;
@@ -153,12 +189,19 @@ module _ (setting : Setting) (regs : Regs) (loads_none : setting.load_of regs �
     is_owed = λ by memory. owed_closed by memory
         ∙ (ap (owed_outside (setting.takes_two_steps regs)) is ∙ ap (λ t. owed_outside t (Goes next store)) is_two);
     is_made = λ memory.
-        ap (λ t. cond t None (after_plain memory (outside_at setting regs memory))) is_two
+        let stored : stores_of store ≡ [] =
+        no_stores (stores_of store) (ap addresses_stored_outside (sym (outside_is memory ∙ is)) ∙ none memory) in
+        settles memory (Closed next) (store_buffered setting memory (Closed regs) Plain)
+        (after_step_of setting memory (Closed regs) Plain)
+        (unbuffered (nat_eq setting.store_buffer 0) (store_outside setting memory (Closed regs) Plain)
+        (unbuffered (setting.waits regs) (store_of (outside_at setting regs memory))
+        (ap store_of (outside_is memory ∙ is) ∙ none_stored store stored)))
+        (ap (λ t. cond t None (after_plain memory (outside_at setting regs memory))) is_two
         ∙ (ap (after_plain memory) (outside_is memory ∙ is)
-        ∙ ap (λ (s : Stores). Some (memory_after memory s, Closed next))
-        (no_stores (stores_of store) (ap addresses_stored_outside (sym (outside_is memory ∙ is)) ∙ none memory)));
+        ∙ ap (λ (s : Stores). Some (memory_after memory s, Closed next)) stored));
     loads = λ memory. loads_none;
-    stores = λ memory. none memory;
+    writes = λ memory. at_once (store_buffered setting memory (Closed regs) Plain)
+        (addresses_stored_by setting memory (Closed regs) Plain) (none memory);
     before = λ memory loads stores. refl;
     after = λ memory loads stores. refl;
     still = still;
@@ -205,13 +248,15 @@ module _ (setting : Setting) (regs : Regs) (loads_none : setting.load_of regs �
 doomed : (setting : Setting) (regs : Regs) (steps depth : ℕ) → IsUnseenStep setting (Opened regs steps) (Some depth)
 doomed setting regs steps depth =
     let outcome : Outcome = owed_outcome setting [] (Opened regs steps) (Some depth) in
+    let next : Core = Closed (registers_after_abort setting regs (status_at Conflict depth)) in
     record {
       outcome = outcome;
-      next = Closed (registers_after_abort setting regs (status_at Conflict depth));
+      next = next;
       is_owed = λ by memory. under by memory;
-      is_made = λ memory. refl;
+      is_made = λ memory. settles memory next (store_buffered setting memory (Opened regs steps) outcome)
+          (Some (memory, next)) (unbuffered (nat_eq setting.store_buffer 0) None refl) refl;
       loads = λ memory. refl;
-      stores = λ memory. refl;
+      writes = λ memory. at_once (store_buffered setting memory (Opened regs steps) outcome) [] refl;
       before = λ memory loads stores. refl;
       after = λ memory loads stores. refl;
       still = λ memory. refl;

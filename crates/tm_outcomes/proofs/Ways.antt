@@ -21,7 +21,6 @@ use Rattle.tm_outcomes.specs.declared.stuck.Stuck.{Stuck}
 use Rattle.tm_outcomes.specs.declared.trial.Trial.{Trial}
 use Rattle.tm_outcomes.proofs.Catching.{catches_up, ended_rests, lead_allowed, lead_runs, split}
 use Rattle.tm_outcomes.proofs.Complete.{IsAllowedIn, leads_here, met, steps_to}
-use Rattle.tm_outcomes.proofs.NonePending.{leads_none, none_pick}
 use Rattle.tm_outcomes.proofs.Runs.{run_then}
 use Rattle.tm_outcomes.proofs.Somes.{same_in}
 
@@ -94,8 +93,7 @@ module _ (trial : Trial) (most done : ℕ) (search : Searching) (schedules : Lis
       let parts = split (after_pick setting now pick) (λ next. after_schedule setting next picks) end e in
       let step = steps_to trial schedules search.links.items followed pick now parts.0 node
       (All-head (IsAllowedIn trial) pick picks allowed) leads parts.1.0 in
-      let none = none_pick setting now parts.0 pick refl (leads_none trial schedules node now leads) parts.1.0 in
-      let up = catches_up setting under picks step.rest parts.0 step.end end refl none step.rests
+      let up = catches_up setting under picks step.rest parts.0 step.end end step.rests
       (All-tail (IsAllowedIn trial) pick picks allowed) parts.1.1 in
       let same : end ≡ up.last = ended_rests setting under up.steps end up.last has_ended up.leads in
       never_ends most up.picks step.end up.last step.to (let f = up.few in omega arith)

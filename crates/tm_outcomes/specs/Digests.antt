@@ -6,7 +6,10 @@ use Rattle.std.specs.Prelude.{slice_index}
 use Rattle.std.specs.Int.{w64, from_le_bytes, rotate_left}
 use Rattle.std.specs.List.{fold}
 use Rattle.ia_regs.specs.declared.Regs.{Regs}
+use Rattle.tm_core.specs.Theorem.{pending_at}
 use Rattle.tm_model.specs.Shown.{View}
+use Rattle.tm_model.specs.State.{Pending}
+use Rattle.tm_model.specs.Types.{Store}
 use Rattle.tm_model.specs.declared.outcome.CoreState.{CoreState}
 use Rattle.tm_model.specs.declared.outcome.CoreState.TheVariants.{Running, Mid, Open, Condemned, Stopped as AtStop}
 use Rattle.tm_outcomes.specs.declared.place.Place.{Place}
@@ -74,8 +77,24 @@ mixed_core digest view = mixed_rest (mixed_regs (mixed digest (mode_number view.
 abbrev pub mixed_cores : ℕ → List View → ℕ
 mixed_cores digest views = fold mixed_core digest views
 
+-- ---- stores that are pending
+
+abbrev pub mixed_store : ℕ → Store → ℕ
+mixed_store digest store = mixed digest (store.value * 2 ^ 32 + store.addr)
+
+abbrev pub mixed_pending : ℕ → Pending → ℕ
+mixed_pending digest pending = fold mixed_store digest pending
+
+-- of so many cores
+abbrev pub mixed_buffers : (ℕ → Pending) → ℕ → ℕ → ℕ
+mixed_buffers pending_of digest zero = digest
+mixed_buffers pending_of digest (suc count) =
+    mixed_pending (mixed_buffers pending_of digest count) (pending_of count)
+
 -- ---- of a state, whose memory is another one but on some lines
 
 abbrev pub digest_by : Written → Place → ℕ
 digest_by written place =
-    mixed_cores (mixed_lines place.machine.memory written.opening.items 0 written.lines.items) place.machine.views
+    mixed_buffers (pending_at place.machine)
+    (mixed_cores (mixed_lines place.machine.memory written.opening.items 0 written.lines.items) place.machine.views)
+    (length place.machine.views)

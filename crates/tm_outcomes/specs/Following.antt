@@ -1,14 +1,17 @@
 -- A search on its way, with its bench: what following the steps of a node asks of it, and what it leaves.
-use Rattle.std.specs.Prelude.{◌≡◌, ℕ, ◌<◌, ◌≤◌, List, [], Option, None, length}
+use Rattle.std.specs.Prelude.{◌≡◌, ℕ, ◌<◌, ◌≤◌, Bool, true, false, List, [], Option, Some, None, length}
 use Rattle.tm_model.specs.declared.outcome.Event.{Event}
+use Rattle.tm_model.specs.declared.outcome.Event.TheVariants as event
 use Rattle.tm_model.specs.declared.outcome.Pick.{Pick}
 use Rattle.tm_outcomes.specs.Kept.{AreKept}
-use Rattle.tm_outcomes.specs.Nodes.{HaveSchedules, IsNeededBehind, IsOpenBehind, IsTree, IsUntouched, schedule_at}
+use Rattle.tm_outcomes.specs.Nodes.{BefallsBehind, HaveSchedules, IsNeededBehind, IsTree, IsUntouchedBehind}
+use Rattle.tm_outcomes.specs.Nodes.{schedule_at}
 use Rattle.tm_outcomes.specs.Places.{IsAt}
 use Rattle.tm_outcomes.specs.Searching.{IsFollowedIn}
 use Rattle.tm_outcomes.specs.Written.{IsBenchOf, IsPlaceIn}
 use Rattle.tm_outcomes.specs.declared.bench.Bench.{Bench}
 use Rattle.tm_outcomes.specs.declared.nodes.Node.{Node}
+use Rattle.tm_outcomes.specs.declared.searching.Followed.{Followed}
 use Rattle.tm_outcomes.specs.declared.searching.Progress.{Progress}
 use Rattle.tm_outcomes.specs.declared.searching.Progress.TheVariants.{GoesOn, IsCut}
 use Rattle.tm_outcomes.specs.declared.searching.Searching.{Searching}
@@ -25,22 +28,33 @@ pub record IsNewBench (trial : Trial) (bench : Bench) : Type 0 where
 
 -- ---- a core's step from a node on, by the schedule that leads there
 
--- it comes under the event that is usual, or under one that aborts the core
+-- it comes under the event that is usual, or under one that befalls the core
 abbrev pub IsNeededAt : Trial → List Node → ℕ → Pick → Type 0
 IsNeededAt trial nodes index pick =
     (schedules : List (List Pick)) → IsTree trial nodes schedules →
     IsNeededBehind trial (schedule_at schedules index) pick
 
--- an event aborts the core
-abbrev pub IsOpenAt : Trial → List Node → ℕ → ℕ → Type 0
-IsOpenAt trial nodes index core =
+-- this event befalls the core
+abbrev pub BefallsAt : Trial → List Node → ℕ → ℕ → Event → Type 0
+BefallsAt trial nodes index core event =
     (schedules : List (List Pick)) → IsTree trial nodes schedules →
-    IsOpenBehind trial (schedule_at schedules index) core
+    BefallsBehind trial (schedule_at schedules index) (record { core = core; event = Some event })
 
--- the core's step is under each event what it is under none
-abbrev pub IsUntouchedAt : Trial → List Node → ℕ → ℕ → Type 0
-IsUntouchedAt trial nodes index core =
-    (schedules : List (List Pick)) → IsTree trial nodes schedules → IsUntouched trial schedules index core
+-- the core's step is under this event what it is under none
+abbrev pub IsUntouchedAt : Trial → List Node → ℕ → ℕ → Event → Type 0
+IsUntouchedAt trial nodes index core event =
+    (schedules : List (List Pick)) → IsTree trial nodes schedules →
+    IsUntouchedBehind trial (schedule_at schedules index) core event
+
+-- whether an event befalls the core that was followed
+abbrev pub befalls : Followed → Event → Bool
+befalls followed (event.Abort by) = followed.was_open
+befalls followed event.Drain = followed.had_pending
+
+-- so it is known of each event
+pub record AreKnownAt (trial : Trial) (nodes : List Node) (index core : ℕ) (followed : Followed) : Type 0 where
+  pub untouched : (event : Event) → befalls followed event ≡ false → IsUntouchedAt trial nodes index core event
+  pub befallen : (event : Event) → befalls followed event ≡ true → BefallsAt trial nodes index core event
 
 -- ---- a node that is gone on from
 

@@ -7,8 +7,8 @@ use Rattle.tm_model.specs.declared.outcome.Event.{Event}
 use Rattle.tm_model.specs.declared.outcome.Pick.{Pick}
 use Rattle.tm_rule.specs.declared.kinds.Stop.{Stop}
 use Rattle.tm_outcomes.specs.Links.{IsLink, LiesWithin}
-use Rattle.tm_outcomes.specs.Outcomes.{AreTold, IsAllowed, IsOpen, IsSparing, trial_opening, trial_setting, usual_event}
-use Rattle.tm_outcomes.specs.Outcomes.{value_of}
+use Rattle.tm_outcomes.specs.Outcomes.{AreTold, Befalls, IsAllowed, IsSparing, trial_opening, trial_setting}
+use Rattle.tm_outcomes.specs.Outcomes.{usual_event, value_of}
 use Rattle.tm_outcomes.specs.Places.{AreAlike, IsAt}
 use Rattle.tm_outcomes.specs.Schedules.{HasEnded, Situation, after_pick, after_schedule}
 use Rattle.tm_outcomes.specs.Unseen.{LeadUnseen}
@@ -46,16 +46,24 @@ HasRun trial schedule =
     (now : Situation) × (after_schedule (trial_setting trial) (trial_opening trial) schedule ≡ Some now)
     × (now.state.count ≡ length trial.program.now.entries) × IsSparing trial schedule
 
--- where a schedule leads to, an event aborts the core
-abbrev pub IsOpenBehind : Trial → List Pick → ℕ → Type 0
-IsOpenBehind trial schedule core =
+-- where a schedule leads to, the event of a pick befalls its core
+abbrev pub BefallsBehind : Trial → List Pick → Pick → Type 0
+BefallsBehind trial schedule pick =
     (now : Situation) → after_schedule (trial_setting trial) (trial_opening trial) schedule ≡ Some now →
-    IsOpen (now.state.cores core) (now.doomed core)
+    Befalls pick.event (now.state.pending pick.core) (now.state.cores pick.core) (now.doomed pick.core)
 
--- a pick under the event that is usual, or one that aborts the core where a schedule leads to
+-- a pick under the event that is usual, or under one that befalls its core where a schedule leads to
 abbrev pub IsNeededBehind : Trial → List Pick → Pick → Type 0
-IsNeededBehind trial schedule pick =
-    (pick.event ≡ usual_event trial.events) ⊎ IsOpenBehind trial schedule pick.core
+IsNeededBehind trial schedule pick = (pick.event ≡ usual_event trial.events) ⊎ BefallsBehind trial schedule pick
+
+-- wherever it is shown what is shown at the end of a schedule, the next step of a core is under this event what it is
+-- under none
+abbrev pub IsUntouchedBehind : Trial → List Pick → ℕ → Event → Type 0
+IsUntouchedBehind trial schedule core event =
+    (end now : Situation) → after_schedule (trial_setting trial) (trial_opening trial) schedule ≡ Some end →
+    AreSame trial end now →
+    after_pick (trial_setting trial) now (record { core = core; event = Some event })
+    ≡ after_pick (trial_setting trial) now (record { core = core; event = None })
 
 -- these are the schedules of the nodes
 pub record IsTree (trial : Trial) (nodes : List Node) (schedules : List (List Pick)) : Type 0 where
@@ -138,13 +146,6 @@ pub record IsStep (trial : Trial) (schedules : List (List Pick)) (link : Link) :
   pub pick : Pick
   pub is_pick : IsPickOf trial pick
   pub along : LeadsAlong trial schedules link.from pick link.to
-
--- the next step of a core is under each event what it is under none
-abbrev pub IsUntouched : Trial → List (List Pick) → ℕ → ℕ → Type 0
-IsUntouched trial schedules index core =
-    (now : Situation) → LeadsTo trial schedules index now → (event : Event) →
-    after_pick (trial_setting trial) now (record { core = core; event = Some event })
-    ≡ after_pick (trial_setting trial) now (record { core = core; event = None })
 
 -- a node at which each core has stopped
 pub record IsEnd (trial : Trial) (schedules : List (List Pick)) (index : ℕ) : Type 0 where

@@ -6,8 +6,9 @@ use Rattle.ia_word.specs.declared.width.Width.TheVariants.{D}
 use Rattle.tm_core.specs.Machine.{bad_limits}
 use Rattle.tm_model.specs.Access.{addresses_of, bytes_at}
 use Rattle.tm_model.specs.Setting.{Setting, program_setting}
-use Rattle.tm_model.specs.State.{Closed, Core, Halted, Midway, Opened, State}
+use Rattle.tm_model.specs.State.{Closed, Core, Halted, Midway, Opened, Pending, State}
 use Rattle.tm_model.specs.declared.outcome.Event.{Event}
+use Rattle.tm_model.specs.declared.outcome.Event.TheVariants as event
 use Rattle.tm_model.specs.declared.outcome.Pick.{Pick}
 use Rattle.ia_regs.specs.declared.Regs.{Regs}
 use Rattle.tm_outcomes.specs.Schedules.{HasEnded, Situation, after_pick, after_schedule, opening}
@@ -60,8 +61,10 @@ IsAllowed (Always always) event = event ≡ Some always
 abbrev pub AreAllowed : Trial → List Pick → Type 0
 AreAllowed trial schedule = All (λ pick. IsAllowed trial.events pick.event) schedule
 
+-- the rules of the machines
 abbrev pub trial_setting : Trial → Setting
-trial_setting trial = program_setting trial.program.now trial.limits.read_lines trial.limits.write_lines 0
+trial_setting trial =
+    program_setting trial.program.now trial.limits.read_lines trial.limits.write_lines trial.limits.stores
 
 abbrev pub trial_opening : Trial → Situation
 trial_opening trial = opening trial.program.now
@@ -77,16 +80,19 @@ usual_event (Always always) = Some always
 abbrev pub AreUsual : Trial → List Pick → Type 0
 AreUsual trial steps = All (λ pick. pick.event ≡ usual_event trial.events) steps
 
--- in a transaction that is not doomed, so that an event aborts the core (SDM volume 1, 16.3.8)
-abbrev pub IsOpen : Core → Option ℕ → Type 0
-IsOpen (Opened regs steps) None = ⊤
-IsOpen core doom = ⊥
+-- the event befalls a core of which these stores are pending: it aborts a transaction that is not doomed (SDM volume 1,
+-- 16.3.8), or the oldest store drains
+abbrev pub Befalls : Option Event → Pending → Core → Option ℕ → Type 0
+Befalls (Some (event.Abort by)) pending (Opened regs steps) None = ⊤
+Befalls (Some event.Drain) (oldest ∷ younger) core doom = ⊤
+Befalls event pending core doom = ⊥
 
--- of these steps from here on, each comes under what is usual, or under an event that aborts a transaction
+-- of these steps from here on, each comes under what is usual, or under an event that befalls its core
 abbrev pub SparesEvents : Trial → Situation → List Pick → Type 0
 SparesEvents trial now [] = ⊤
 SparesEvents trial now (pick ∷ picks) =
-    (pick.event ≡ usual_event trial.events ⊎ IsOpen (now.state.cores pick.core) (now.doomed pick.core))
+    (pick.event ≡ usual_event trial.events
+    ⊎ Befalls pick.event (now.state.pending pick.core) (now.state.cores pick.core) (now.doomed pick.core))
     × ((next : Situation) → after_pick (trial_setting trial) now pick ≡ Some next → SparesEvents trial next picks)
 
 -- no step of a schedule comes under an event without need
@@ -128,7 +134,7 @@ pub record IsSearch (trial : Trial) (most : ℕ) (search : Search) : Type 0 wher
   pub limit : search.is_cut ≡ true → search.states ≡ most
   pub few : search.states ≤ most
 
--- a limit on lines is out of range, or memory was refused
+-- a limit is out of range, or memory was refused
 abbrev pub IsRefusal : Trial → SearchFault → Type 0
 IsRefusal trial BadLimits = bad_limits trial.limits ≡ true
 IsRefusal trial NoMemory = ⊤

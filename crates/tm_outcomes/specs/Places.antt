@@ -1,7 +1,8 @@
 -- A machine at the end of a schedule, and when two of them stand for the same states.
-use Rattle.std.specs.Prelude.{◌≡◌, ℕ, Bool, true, false, ◌<◌, List, ◌++◌, Some, None, length, replicate}
+use Rattle.std.specs.Prelude.{◌≡◌, ℕ, Bool, true, false, ◌<◌, List, [], ◌∷◌, ◌++◌, Some, None, length, replicate}
 use Rattle.tm_core.specs.Theorem.{StandsFor, machine_setting, pending_at, view_at}
 use Rattle.tm_model.specs.Setting.{Setting}
+use Rattle.tm_model.specs.State.{Pending}
 use Rattle.tm_model.specs.declared.outcome.Pick.{Pick}
 use Rattle.tm_model.specs.declared.outcome.CoreState.{CoreState}
 use Rattle.tm_model.specs.declared.outcome.CoreState.TheVariants.{Running, Mid, Open, Condemned, Stopped as AtStop}
@@ -48,6 +49,11 @@ is_open Running = false
 is_open Mid = false
 is_open (Condemned depth) = false
 is_open (AtStop stop) = false
+
+-- whether a store is pending
+abbrev pub are_pending : Pending → Bool
+are_pending [] = false
+are_pending (oldest ∷ younger) = true
 
 -- memory is the same, and what is shown of each core, with its stores that are pending
 pub record AreAlike (a b : Place) : Type 0 where

@@ -1,5 +1,5 @@
 -- A search while it goes on.
-use Rattle.std.specs.Prelude.{◌≡◌, ◌≢◌, ℕ, ◌<◌, ◌≤◌, Bool, true, false, List, ◌++◌, All, Contains, Option, Some, None}
+use Rattle.std.specs.Prelude.{◌≡◌, ◌≢◌, ℕ, ◌<◌, ◌≤◌, Bool, true, false, List, ◌++◌, All, Option, Some, None}
 use Rattle.std.specs.Prelude.{IfSome, length}
 use Rattle.std.specs.List.{AllPairs}
 use Rattle.tm_model.specs.declared.outcome.Event.{Event}
@@ -63,11 +63,6 @@ pub record IsSearching (trial : Trial) (most : ℕ) (search : Searching) (schedu
 -- this event, or none where it is none
 abbrev pub IsThis : Option Event → Option Event → Type 0
 IsThis this event = event ≡ this
-
--- one of these events
-abbrev pub IsOneOf : List Event → Option Event → Type 0
-IsOneOf events None = ⊥
-IsOneOf events (Some event) = Contains events event
 
 -- a node's step by this core under each of these events is followed in a tree that has grown from another
 pub record Grows (trial : Trial) (before after : Searching) (schedules : List (List Pick)) (index core : ℕ)

@@ -27,8 +27,11 @@ is_unseen setting memory (Closed regs) None = touches_nothing setting memory reg
 is_unseen setting memory (Opened regs steps) (Some depth) = true
 is_unseen setting memory core doom = false
 
+-- of a core of which no store is pending, so that no drain befalls it
 abbrev pub IsUnseen : Setting → Situation → ℕ → Type 0
-IsUnseen setting now core = is_unseen setting (seen_by now.state core) (now.state.cores core) (now.doomed core) ≡ true
+IsUnseen setting now core =
+    (now.state.pending core ≡ [])
+    × (is_unseen setting (seen_by now.state core) (now.state.cores core) (now.doomed core) ≡ true)
 
 -- from one situation these steps, each of them unseen and under an event that is allowed, lead to another
 abbrev pub LeadUnseen : Setting → (Option Event → Type 0) → Situation → List Pick → Situation → Type 0

@@ -212,6 +212,7 @@ fn round_of(
 }
 
 /// A cycle of a search that is over, by its links, from a state that is marked, since an end can be reached from it.
+/// None is told where stores may be pending.
 pub fn cycle_of(
     task: &Task<'_>,
     bench: &mut Bench,
@@ -225,6 +226,10 @@ pub fn cycle_of(
     ensures ok { IfOk result (λ cycle. IfSome cycle (IsRoundOf task.now.trial nodes.now marked.now)) }
     ensures err { IfErr result (IsRefusal task.now.trial) }
 {
+    // A store that stays pending for ever is no fault of the program.
+    if task.trial.limits.stores > 0 {
+        return Ok(None);
+    }
     let Some(first) = fair.components.first else {
         return Ok(None);
     };

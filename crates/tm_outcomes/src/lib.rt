@@ -13,6 +13,10 @@
 //! or need not end is compared by `doc_tests`. The words for it stand in `specs/Schedules.antt`, `specs/Outcomes.antt`
 //! and `specs/Verdicts.antt`, over the machine's definitions in `tm_model` alone.
 //!
+//! Where stores may be pending, a drain is followed of each core of which one is, if the trial has it among its events;
+//! a step that waits is one as well. No cycle is told then, as a store that stays pending for ever is no fault of the
+//! program.
+//!
 //! Two states count as one where memory and what is shown of each core are the same: the machine's steps are a
 //! function of these. Behind each step that is followed, the steps of all cores are made at once that no other core
 //! sees and none changes (`specs/Unseen.antt`): whatever comes between them, the same states follow, so no schedule

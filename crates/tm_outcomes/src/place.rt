@@ -7,14 +7,15 @@
 ghost use Rattle.std.specs.Prelude.{◌≡◌, ◌↔◌, ◌+◌, ◌*◌, ◌^◌, ◌<◌, ◌++◌, ◌∷◌, [], List, IfErr, IfOk, IsOk, IsTrue};
 ghost use Rattle.std.specs.Prelude.{false, length, map};
 ghost use Rattle.tm_core.specs.Reopening.{IsSameElsewhere};
-ghost use Rattle.tm_core.specs.Theorem.{SameMachine, StandsFor, TakesStepUnder, view_at};
+ghost use Rattle.tm_core.specs.Theorem.{SameMachine, StandsFor, TakesStepUnder, pending_at, view_at};
 ghost use Rattle.tm_model.specs.Conflicts.{Doomed};
 ghost use Rattle.tm_model.specs.State.{State};
 ghost use Rattle.tm_outcomes.specs.Outcomes.{AreThere, IsRefusal, IsThere, trial_setting, value_of};
 ghost use Rattle.tm_model.specs.declared.outcome.Pick.{Pick};
-ghost use Rattle.tm_outcomes.specs.Digests.{digest_by, mixed_core, mixed_cores, mixed_lines, mixed_regs, mixed_rest};
+ghost use Rattle.tm_outcomes.specs.Digests.{digest_by, mixed_buffers, mixed_core, mixed_cores, mixed_lines};
+ghost use Rattle.tm_outcomes.specs.Digests.{mixed_pending, mixed_regs, mixed_rest};
 ghost use Rattle.tm_outcomes.specs.Digests.{mode_number};
-ghost use Rattle.tm_outcomes.specs.Places.{AreAlike, GoesTo, IsAt, IsPlaceOf, has_stopped, is_open};
+ghost use Rattle.tm_outcomes.specs.Places.{AreAlike, GoesTo, IsAt, IsPlaceOf, are_pending, has_stopped, is_open};
 ghost use Rattle.tm_outcomes.specs.Schedules.{HasEnded, Situation};
 ghost use Rattle.tm_condition.specs.Conditions.{Violates};
 ghost use Rattle.tm_outcomes.specs.Verdicts.{StopsBy, seen_at};
@@ -117,19 +118,19 @@ impl Place {
 
 impl Place {
     /// Whether another place goes on as this one does.
-    #[tactic(auto, using(tm_core::proofs::NonePending::none_alike))]
     pub fn is_alike(&self, other: &Place, written: &Written) -> bool
         requires memory { IsSameElsewhere written.now.lines.items self.now.machine.memory written.now.opening.items }
         requires others { IsSameElsewhere written.now.lines.items other.now.machine.memory written.now.opening.items }
         ensures { IsTrue result ↔ AreAlike self.now other.now }
     {
-        self.machine.nothing_pending();
-        other.machine.nothing_pending();
         if self.machine.cores() != other.machine.cores() {
             return false;
         }
         for core in 0..self.machine.cores() {
             if !self.machine.is_core_alike(&other.machine, core) {
+                return false;
+            }
+            if !is_pending_alike(&self.machine, &other.machine, core) {
                 return false;
             }
         }
@@ -142,7 +143,38 @@ impl Place {
     }
 }
 
+// Whether the same stores of a core are pending.
+fn is_pending_alike(a: &Machine, b: &Machine, core: u8) -> bool
+    requires here { core < length a.now.views }
+    requires there { core < length b.now.views }
+    ensures { IsTrue result ↔ (pending_at a.now core ≡ pending_at b.now core) }
+{
+    let (Ok(one), Ok(other)) = (a.pending(core), b.pending(core)) else {
+        unreachable!();
+    };
+    if one.len() != other.len() {
+        return false;
+    }
+    for index in 0..one.len() {
+        if one[index] != other[index] {
+            return false;
+        }
+    }
+    true
+}
+
 impl Place {
+    /// Whether a store of a core is pending.
+    pub fn has_pending(&self, core: u8) -> bool
+        requires { core < length self.now.machine.views }
+        ensures { result ≡ are_pending (pending_at self.now.machine core) }
+    {
+        match self.machine.pending(core) {
+            Ok(stores) => !stores.is_empty(),
+            Err(_) => unreachable!(),
+        }
+    }
+
     /// Whether a core is in a transaction that is not doomed.
     pub fn is_open(&self, core: u8) -> bool
         requires { core < length self.now.machine.views }
@@ -241,13 +273,15 @@ impl Place {
     }
 
     /// A number that is the same for places of a trial that are alike: of each line that steps store to the bytes,
-    /// where they are not what they were before the first step, and of each core what it does and its registers.
+    /// where they are not what they were before the first step, and of each core what it does, its registers and its
+    /// stores that are pending.
     pub fn digest(&self, written: &Written) -> u64
         ensures { result ≡ digest_by written.now self.now }
     {
         let mut digest = Digest::new();
         self.digest_lines(written, &mut digest);
         self.digest_cores(&mut digest);
+        self.digest_buffers(&mut digest);
         digest.value()
     }
 
@@ -267,6 +301,29 @@ impl Place {
     {
         for core in 0..self.machine.cores() {
             self.digest_core(core, digest);
+        }
+    }
+
+    // Adds the stores of each core that are pending.
+    fn digest_buffers(&self, digest: &mut Digest)
+        ensures { digest.new.value ≡ mixed_buffers (pending_at self.now.machine) digest.old.value
+            (length self.now.machine.views) }
+    {
+        for core in 0..self.machine.cores() {
+            self.digest_pending(core, digest);
+        }
+    }
+
+    // Adds those of a core.
+    fn digest_pending(&self, core: u8, digest: &mut Digest)
+        requires { core < length self.now.machine.views }
+        ensures { digest.new.value ≡ mixed_pending digest.old.value (pending_at self.now.machine core) }
+    {
+        let Ok(stores) = self.machine.pending(core) else {
+            unreachable!();
+        };
+        for store in stores {
+            digest.add(word_of_store(store.addr, store.value));
         }
     }
 
@@ -318,6 +375,13 @@ fn number_of(state: CoreState) -> u64
         CoreState::Condemned(depth) => 10 + u64::from(depth % 8),
         CoreState::Stopped(_) => 18,
     }
+}
+
+// What is stored, and where.
+fn word_of_store(addr: u32, value: u32) -> u64
+    ensures { result ≡ value * 2 ^ 32 + addr }
+{
+    u64::from(value) * 0x1_0000_0000 + u64::from(addr)
 }
 
 // The instruction pointer and the flags.

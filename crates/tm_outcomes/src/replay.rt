@@ -52,7 +52,8 @@ impl Place {
         ensures some { 1 ≤ result }
         ensures most { result ≤ most }
     {
-        if most < SHORTEST {
+        // A step that waits is told as a drain, so that it is made by itself.
+        if most < SHORTEST || trial.limits.stores > 0 {
             self.step(trial, Pick { core, event: None });
             return 1;
         }

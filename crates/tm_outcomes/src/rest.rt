@@ -1,7 +1,8 @@
 //! Steps that no other core sees.
 //!
 //! Such a step touches no memory, conflicts with none, and is the same whatever the other cores do before it: in
-//! whichever order it and their steps are made, the same states follow. So a search makes these steps at once, and
+//! whichever order it and their steps are made, the same states follow. No store of its core is pending, so that no
+//! drain comes between. So a search makes these steps at once, and
 //! follows the others (`specs/Unseen.antt`).
 
 ghost use Rattle.std.specs.Prelude.{◌≡◌, ◌<◌, ℕ, IfOk, length, true};
@@ -15,7 +16,7 @@ ghost use Rattle.tm_outcomes.specs.Outcomes.{trial_setting, usual_event};
 ghost use Rattle.tm_outcomes.specs.Places.{IsPlaceOf};
 ghost use Rattle.tm_outcomes.specs.Resting.{Advances, RestsBy, is_condemned, is_running};
 ghost use Rattle.tm_outcomes.specs.Schedules.{Situation};
-ghost use Rattle.tm_outcomes.specs.Unseen.{are_none, is_unseen, touches_nothing};
+ghost use Rattle.tm_outcomes.specs.Unseen.{IsUnseen, are_none, is_unseen, touches_nothing};
 
 use crate::place::Place;
 use crate::trial::{Events, Trial};
@@ -44,8 +45,8 @@ fn is_condemned(state: CoreState) -> bool
 
 // Whether the instruction at these registers loads nothing.
 fn loads_nothing(program: &Program, regs: &Regs) -> bool
-    ensures { (reads writes : ℕ) →
-        result ≡ are_none ((program_setting program.now reads writes 0).load_of regs.now) }
+    ensures { (reads writes stores : ℕ) →
+        result ≡ are_none ((program_setting program.now reads writes stores).load_of regs.now) }
 {
     let code = Code {
         bytes: program.code(),
@@ -124,6 +125,16 @@ impl Place {
         self.touches_nothing(trial, core)
     }
 
+    // Whether no other core sees the next step of a core, and neither another core nor a drain changes it.
+    fn is_quiet(&self, trial: &Trial<'_>, core: u8) -> bool
+        requires place { IsPlaceOf trial.now self.now }
+        requires core { core < length trial.now.program.now.entries }
+        ensures { result ≡ true → (now : Situation) → StandsFor self.now.machine now.state now.doomed →
+            IsUnseen (trial_setting trial.now) now core }
+    {
+        !self.has_pending(core) && self.is_unseen(trial, core)
+    }
+
     // Whether a core is where it was at the mark, so that it goes round in a loop that touches no memory. The mark
     // moves with each doubling of the steps, so that it comes to lie in such a loop.
     fn has_come_back(&self, core: u8, count: usize, mark: &mut Option<Regs>) -> bool {
@@ -164,7 +175,7 @@ impl Place {
             if self.has_come_back(core, steps.as_slice().len(), &mut mark) {
                 return Ok(());
             }
-            if !self.is_unseen(trial, core) {
+            if !self.is_quiet(trial, core) {
                 return Ok(());
             }
             steps.push(pick)?;

@@ -1,9 +1,9 @@
 //! The search: [`outcomes`], and [`outcomes_watched`], which tells how far it is.
 //!
 //! States are gone on from in the order in which they were met. Of each, what it shows is taken up (`findings`);
-//! then each core makes its next step, under each event that may come, with the unseen steps behind it (`rest`),
-//! and the state there is looked for among those of its digest before it counts as new. A new one above the limit
-//! cuts the search; otherwise its links are judged (`verdict`).
+//! then each core makes its next step, under none and under each event that befalls it, with the unseen steps behind
+//! it (`rest`), and the state there is looked for among those of its digest before it counts as new. A new one above
+//! the limit cuts the search; otherwise its links are judged (`verdict`).
 
 ghost use Rattle.std.specs.Prelude.{◌≡◌, ◌<◌, ◌≤◌, ◌+◌, ◌++◌, ◌∷◌, ◌^◌, [], All, IfErr, IfOk, OnOk, false};
 ghost use Rattle.std.specs.Prelude.{length};
@@ -11,13 +11,13 @@ ghost use Rattle.std.specs.HashMap.{Updates};
 ghost use Rattle.std.specs.Prelude.{None, Option, Some, nat_eq, true};
 ghost use Rattle.tm_model.specs.declared.outcome.Event.{Event};
 ghost use Rattle.tm_model.specs.declared.outcome.Pick.{Pick};
-ghost use Rattle.tm_outcomes.specs.Following.{GoesOnFrom, HasBench, HasFollowed, IsNeededAt, IsNewBench, IsOpenAt};
-ghost use Rattle.tm_outcomes.specs.Following.{IsUntouchedAt};
+ghost use Rattle.tm_outcomes.specs.Following.{AreKnownAt, GoesOnFrom, HasBench, HasFollowed, IsNeededAt, IsNewBench};
+ghost use Rattle.tm_outcomes.specs.Following.{befalls};
 ghost use Rattle.tm_outcomes.specs.Kept.{AreNewest, AreOlder, digest_at};
 ghost use Rattle.tm_outcomes.specs.Links.{LiesWithin};
 ghost use Rattle.tm_outcomes.specs.Nodes.{AreNodesOf, IsPickOf, StandsAtNode};
 ghost use Rattle.tm_outcomes.specs.Outcomes.{AreThere, IsAllowed, IsNoneOrOneOf, IsRefusal, IsSearch, usual_event};
-ghost use Rattle.tm_outcomes.specs.Searching.{AreFindings, HaveDone, IsCutOf, IsOneOf, IsOver, IsThis};
+ghost use Rattle.tm_outcomes.specs.Searching.{AreFindings, HaveDone, IsCutOf, IsOver, IsThis};
 ghost use Rattle.tm_outcomes.specs.Searching.{IsWholeOf};
 ghost use Rattle.tm_outcomes.specs.Verdicts.{IsVerdict};
 ghost use Rattle.tm_outcomes.specs.Written.{IsBenchOf};
@@ -92,9 +92,22 @@ pub enum Progress {
 pub struct Followed {
     /// Whether the search goes on.
     pub progress: Progress,
-    /// Whether the core was in a transaction that was not doomed. Where it was not, its step is the same under each
-    /// event.
+    /// Whether the core was in a transaction that was not doomed, which an abort from outside of the program befalls.
     pub was_open: bool,
+    /// Whether a store of the core was pending, which a drain befalls.
+    pub had_pending: bool,
+}
+
+impl Followed {
+    // Whether an event befell the core. Where it did not, the core's step is under it what it is under none.
+    fn befalls(&self, event: Event) -> bool
+        ensures { result ≡ befalls self.now event }
+    {
+        match event {
+            Event::Abort(_) => self.was_open,
+            Event::Drain => self.had_pending,
+        }
+    }
 }
 
 impl Searching {
@@ -169,19 +182,17 @@ impl Searching {
         ensures found { self.new.found ≡ self.old.found }
         ensures followed { IfOk result (λ r. HasFollowed task.now.trial task.now.most self.old self.new bench.new
             index pick.core (IsThis pick.event) r.progress) }
-        ensures untouched { IfOk result (λ r. r.was_open ≡ false →
-            IsUntouchedAt task.now.trial self.old.nodes.items index pick.core) }
-        ensures opened { IfOk result (λ r. r.was_open ≡ true →
-            IsOpenAt task.now.trial self.old.nodes.items index pick.core) }
+        ensures known { IfOk result (AreKnownAt task.now.trial self.old.nodes.items index pick.core) }
         ensures err { IfErr result (IsRefusal task.now.trial) }
     {
         bench.come_to(task, self.nodes.as_slice(), index)?;
-        if bench.start.has_stopped(pick.core) {
+        if bench.start.has_stopped(pick.core) && !bench.start.has_pending(pick.core) {
             // It stays where it is.
             self.join(index, index, pick.core)?;
             return Ok(Followed {
                 progress: Progress::GoesOn,
                 was_open: false,
+                had_pending: false,
             });
         }
         bench.set_out(task, self.nodes.as_slice(), index)?;
@@ -203,13 +214,11 @@ impl Searching {
         ensures found { self.new.found ≡ self.old.found }
         ensures followed { IfOk result (λ r. HasFollowed task.now.trial task.now.most self.old self.new bench.new
             index pick.core (IsThis pick.event) r.progress) }
-        ensures untouched { IfOk result (λ r. r.was_open ≡ false →
-            IsUntouchedAt task.now.trial self.old.nodes.items index pick.core) }
-        ensures opened { IfOk result (λ r. r.was_open ≡ true →
-            IsOpenAt task.now.trial self.old.nodes.items index pick.core) }
+        ensures known { IfOk result (AreKnownAt task.now.trial self.old.nodes.items index pick.core) }
         ensures err { IfErr result (IsRefusal task.now.trial) }
     {
         let was_open = bench.here.is_open(pick.core);
+        let had_pending = bench.here.has_pending(pick.core);
         // Before the step: behind it the machine tells no more what it could store to.
         bench
             .noted
@@ -222,6 +231,7 @@ impl Searching {
             return Ok(Followed {
                 progress: Progress::GoesOn,
                 was_open,
+                had_pending,
             });
         }
         // Only a state that is new counts against the limit.
@@ -230,6 +240,7 @@ impl Searching {
             return Ok(Followed {
                 progress: Progress::IsCut,
                 was_open,
+                had_pending,
             });
         }
         let number = self.nodes.len();
@@ -243,45 +254,14 @@ impl Searching {
         Ok(Followed {
             progress: Progress::GoesOn,
             was_open,
+            had_pending,
         })
     }
 }
 
 impl Searching {
-    // Takes up the states after the next step of a core: one under each event of these.
-    fn follow_each(
-        &mut self,
-        task: &Task<'_>,
-        bench: &mut Bench,
-        index: usize,
-        core: u8,
-        events: &[Event],
-    ) -> Result<Progress, SearchFault>
-        requires from { GoesOnFrom task.now.trial task.now.most self.old bench.old index }
-        requires is_core { core < length task.now.trial.program.now.entries }
-        requires opened { IsOpenAt task.now.trial self.old.nodes.items index core }
-        requires allowed { (event : Option Event) → IsNoneOrOneOf events.now event →
-            IsAllowed task.now.trial.events event }
-        ensures found { self.new.found ≡ self.old.found }
-        ensures followed { IfOk result (HasFollowed task.now.trial task.now.most self.old self.new bench.new
-            index core (IsOneOf events.now)) }
-        ensures err { IfErr result (IsRefusal task.now.trial) }
-    {
-        for event in events {
-            let pick = Pick {
-                core,
-                event: Some(*event),
-            };
-            let followed = self.follow(task, bench, index, pick)?;
-            let Progress::GoesOn = followed.progress else {
-                return Ok(Progress::IsCut);
-            };
-        }
-        Ok(Progress::GoesOn)
-    }
-
-    // As [`Searching::follow_each`], and before it the state under none. Where the core is in no transaction that
-    // an event aborts, its step is the same under each of them, and leads nowhere else.
+    // Takes up the states after the next step of a core: one under none of these events, and one under each that
+    // befalls it. Under any other its step is what it is under none, and leads nowhere else.
     fn follow_any(
         &mut self,
         task: &Task<'_>,
@@ -301,14 +281,23 @@ impl Searching {
         ensures err { IfErr result (IsRefusal task.now.trial) }
     {
         let alone = Pick { core, event: None };
-        let followed = self.follow(task, bench, index, alone)?;
-        let Progress::GoesOn = followed.progress else {
+        let first = self.follow(task, bench, index, alone)?;
+        let Progress::GoesOn = first.progress else {
             return Ok(Progress::IsCut);
         };
-        if !followed.was_open {
-            return Ok(Progress::GoesOn);
+        for event in events {
+            if first.befalls(*event) {
+                let pick = Pick {
+                    core,
+                    event: Some(*event),
+                };
+                let followed = self.follow(task, bench, index, pick)?;
+                let Progress::GoesOn = followed.progress else {
+                    return Ok(Progress::IsCut);
+                };
+            }
         }
-        self.follow_each(task, bench, index, core, events)
+        Ok(Progress::GoesOn)
     }
 
     // Takes up the states after the next step of a core, under all that the trial says.

@@ -24,9 +24,9 @@ pub enum Item {
 /// What the steps of a trial's schedules come under.
 #[derive(Clone, Copy, Debug)]
 pub enum Events<'a> {
-    /// Each step comes under no event.
+    /// Each step comes under no event: stores drain where steps wait for that, and nowhere else.
     Never,
-    /// Each step comes under none, or under one of these.
+    /// Each step comes under none, or under one of these: where stores may be pending, a drain should be among them.
     May(&'a [Event]),
     /// Each step comes under this one.
     Always(Event),
@@ -38,7 +38,7 @@ pub enum Events<'a> {
 pub struct Trial<'a> {
     /// The program.
     pub program: &'a Program,
-    /// How many lines a transaction can touch.
+    /// How many lines a transaction can touch, and how many stores of a core may be pending.
     pub limits: Limits,
     /// What is shown, in order.
     pub items: &'a [Item],

@@ -1,13 +1,14 @@
 //! The lines of memory that steps store to.
 //!
 //! [`Written::note`] is called before each step that is followed, as only then the machine tells what the step can
-//! store to; unseen steps store nothing. A line stays on the list for the whole search: on these lines alone
-//! machines are compared, copied and taken back (`place`).
+//! store to, by itself or as a drain; unseen steps store nothing. A line stays on the list for the whole search: on
+//! these lines alone machines are compared, copied and taken back (`place`).
 
-ghost use Rattle.std.specs.Prelude.{◌≡◌, ◌↔◌, ◌/◌, ◌<◌, ◌^◌, ℕ, Contains, IfOk, OnOk, false, length, true};
+ghost use Rattle.std.specs.Prelude.{◌≡◌, ◌↔◌, ◌/◌, ◌<◌, ◌^◌, ℕ, [], Contains, IfOk, OnOk, false, length, true};
 ghost use Rattle.ia_image.specs.Program.{opening_memory as memory_of};
-ghost use Rattle.tm_core.specs.Theorem.{StandsFor, machine_setting, view_at};
+ghost use Rattle.tm_core.specs.Theorem.{StandsFor, machine_setting, pending_at, view_at};
 ghost use Rattle.tm_model.specs.Access.{loaded_addresses};
+ghost use Rattle.tm_model.specs.Conflicts.{addresses_drained};
 ghost use Rattle.tm_outcomes.specs.Places.{is_open};
 ghost use Rattle.tm_outcomes.specs.Schedules.{Situation};
 ghost use Rattle.tm_outcomes.specs.Written.{HasMore, KeepsNoted, StoresOn};
@@ -49,13 +50,51 @@ impl Written {
         })
     }
 
-    /// Takes up the lines that the next step of a core can store to, before it is made.
+    /// Takes up the lines that the next step of a core can store to, before it is made: a drain's as well.
     #[tactic(auto, using(crate::proofs::Noting::noting))]
     pub fn note(&mut self, alloc: Global, machine: &Machine, core: u8) -> Result<(), AllocError>
         requires { core < length machine.now.views }
         ensures keeps { KeepsNoted self.old self.new }
         ensures grown { OnOk result (HasMore self.old.lines.items self.new.lines.items) }
         ensures noted { OnOk result ((now : Situation) → StandsFor machine.now now.state now.doomed →
+            StoresOn (machine_setting machine.now) self.new.lines.items now core) }
+    {
+        self.add_drained(machine, core)?;
+        self.add_made(alloc, machine, core)?;
+        Ok(())
+    }
+
+    // The lines of a core's oldest store that is pending, if any.
+    #[tactic(auto, using(crate::proofs::Noting::noting))]
+    fn add_drained(&mut self, machine: &Machine, core: u8) -> Result<(), AllocError>
+        requires { core < length machine.now.views }
+        ensures keeps { KeepsNoted self.old self.new }
+        ensures grown { OnOk result (HasMore self.old.lines.items self.new.lines.items) }
+        ensures all { OnOk result ((address : ℕ) →
+            Contains (addresses_drained (pending_at machine.now core)) address →
+            Contains self.new.lines.items (address / 64)) }
+    {
+        let Ok(stores) = machine.pending(core) else {
+            unreachable!();
+        };
+        let Some((oldest, _younger)) = stores.split_first() else {
+            return Ok(());
+        };
+        let access = Access {
+            addr: oldest.addr,
+            width: oldest.width,
+        };
+        self.add_access(Some(access))?;
+        Ok(())
+    }
+
+    // The lines that a step stores to where no store is pending.
+    fn add_made(&mut self, alloc: Global, machine: &Machine, core: u8) -> Result<(), AllocError>
+        requires { core < length machine.now.views }
+        ensures keeps { KeepsNoted self.old self.new }
+        ensures grown { OnOk result (HasMore self.old.lines.items self.new.lines.items) }
+        ensures noted { OnOk result ((now : Situation) → StandsFor machine.now now.state now.doomed →
+            now.state.pending core ≡ [] →
             StoresOn (machine_setting machine.now) self.new.lines.items now core) }
     {
         if is_open(machine, core) {
@@ -73,9 +112,9 @@ impl Written {
         ensures keeps { KeepsNoted self.old self.new }
         ensures grown { OnOk result (HasMore self.old.lines.items self.new.lines.items) }
         ensures noted { OnOk result ((now : Situation) → StandsFor machine.now now.state now.doomed →
+            now.state.pending core ≡ [] →
             StoresOn (machine_setting machine.now) self.new.lines.items now core) }
     {
-        machine.nothing_pending();
         let Ok(counts) = machine.counts(core) else {
             unreachable!();
         };
@@ -98,9 +137,9 @@ impl Written {
         ensures keeps { KeepsNoted self.old self.new }
         ensures grown { OnOk result (HasMore self.old.lines.items self.new.lines.items) }
         ensures noted { OnOk result ((now : Situation) → StandsFor machine.now now.state now.doomed →
+            now.state.pending core ≡ [] →
             StoresOn (machine_setting machine.now) self.new.lines.items now core) }
     {
-        machine.nothing_pending();
         let Ok(preview) = machine.preview(core) else {
             unreachable!();
         };

@@ -1,4 +1,3 @@
-use Rattle.std.proofs.Common.{sym, ◌∙◌}
 use Rattle.tm_model.specs.declared.outcome.Pick.{Pick}
 use Rattle.tm_outcomes.specs.Nodes.{IsUsualPick}
 use Rattle.tm_outcomes.proofs.Resting.{by_none, by_one, rests_once}
@@ -28,5 +27,5 @@ steps-preserved c =
           by_one trial c.args.self.now c.steps.self c.step.new.self c.args.steps.now.items c.steps.steps.items _ pick
           so_far.rests added
           (rests_once trial c.steps.self c.step.new.self pick is_pick c.step.ensures.goes c.step.ensures.at
-          (λ now stands. sym (c.is_unseen.ensures now stands) ∙ c.if-not-is_unseen.false));
+          (c.is_quiet.ensures c.if-not-is_quiet.false));
     }

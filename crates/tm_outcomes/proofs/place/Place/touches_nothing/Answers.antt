@@ -20,7 +20,8 @@ returns-then-not-loads_nothing c = λ now stands.
     let base : Regs = (view_at c.args.self.now.machine c.args.core).base in
     let loads : are_none (setting.load_of base) ≡ false =
     subst (λ (regs : Regs). are_none (setting.load_of regs) ≡ false) c.in-Ok.ensures.shown
-    (sym (c.loads_nothing.ensures trial.limits.read_lines trial.limits.write_lines) ∙ c.if-not-loads_nothing.true) in
+    (sym (c.loads_nothing.ensures trial.limits.read_lines trial.limits.write_lines trial.limits.stores)
+    ∙ c.if-not-loads_nothing.true) in
     sym (ap (λ t. t && are_none (addresses_stored_at setting (seen_by now.state c.args.core) (Closed base)
     (owed_outcome setting (seen_by now.state c.args.core) (Closed base) None))) loads)
 
@@ -34,7 +35,8 @@ returns c = λ now stands.
     let base : Regs = (view_at machine core).base in
     let loads : are_none (setting.load_of base) ≡ true =
     subst (λ (regs : Regs). are_none (setting.load_of regs) ≡ true) c.in-Ok.ensures.shown
-    (sym (c.loads_nothing.ensures trial.limits.read_lines trial.limits.write_lines) ∙ c.if-not-loads_nothing.false) in
+    (sym (c.loads_nothing.ensures trial.limits.read_lines trial.limits.write_lines trial.limits.stores)
+    ∙ c.if-not-loads_nothing.false) in
     let closed = closed_shown setting seen (now.state.cores core) (now.doomed core) (view_at machine core)
     (shows machine setting now c.requires.place.rules stands core
     (let count = c.requires.place.count in let is_core = c.requires.core in omega arith))

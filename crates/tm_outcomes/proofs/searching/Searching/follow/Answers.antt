@@ -1,5 +1,4 @@
 use Rattle.std.proofs.Common.{List, ◌∙◌, refl, sym, ap, subst, arith}
-use Rattle.std.proofs.lemmas.Bool.{false≢true}
 use Rattle.tm_outcomes.specs.Nodes.{AreNodesOf, IsTree, schedule_at}
 use Rattle.tm_outcomes.specs.Places.{IsAt}
 use Rattle.tm_outcomes.specs.Written.{IsBenchOf}
@@ -7,8 +6,8 @@ use Rattle.tm_outcomes.specs.declared.nodes.Node.{Node}
 use Rattle.tm_outcomes.proofs.Idling.{leads_back}
 use Rattle.tm_outcomes.proofs.Joined.{to_known}
 use Rattle.tm_outcomes.proofs.Kept.{kept_same}
-use Rattle.tm_outcomes.proofs.Leads.{untouched_at}
-use Rattle.tm_outcomes.proofs.Shown.{stopped_closed}
+use Rattle.tm_outcomes.proofs.Leads.{known_at}
+use Rattle.tm_outcomes.proofs.Shown.{none_pending, stopped_closed}
 use Rattle.tm_outcomes.proofs.searching.Searching.follow.Goals as goal
 
 pub come_to-requires-clause-bench : goal.come_to-requires-clause-bench
@@ -18,6 +17,16 @@ come_to-requires-clause-bench c =
 
 pub has_stopped-requires : goal.has_stopped-requires
 has_stopped-requires c =
+    let at : IsAt c.args.task.now.trial c.come_to.new.self.start (schedule_at c.requires.from.tree.0 c.args.index) =
+    c.in_ok-come_to.ensures.start c.requires.from.tree.0
+    (subst (λ (ns : List Node). IsTree c.args.task.now.trial ns c.requires.from.tree.0) (sym c.as_slice.ensures.value)
+    c.requires.from.tree.1) in
+    let count = at.count in
+    let is_core = c.requires.is_pick.is_core in
+    omega arith
+
+pub has_pending-requires : goal.has_pending-requires
+has_pending-requires c =
     let at : IsAt c.args.task.now.trial c.come_to.new.self.start (schedule_at c.requires.from.tree.0 c.args.index) =
     c.in_ok-come_to.ensures.start c.requires.from.tree.0
     (subst (λ (ns : List Node). IsTree c.args.task.now.trial ns c.requires.from.tree.0) (sym c.as_slice.ensures.value)
@@ -43,16 +52,15 @@ follow_here-requires-clause-here c = λ schedules tree.
     c.in_ok-set_out.ensures.here schedules
     (subst (λ (ns : List Node). IsTree c.args.task.now.trial ns schedules) (sym c.as_slice-2.ensures.value) tree)
 
-pub returns-then-has_stopped-clause-untouched : goal.returns-then-has_stopped-clause-untouched
-returns-then-has_stopped-clause-untouched c = λ _ schedules tree.
+pub returns-then-not-has_pending-clause-known : goal.returns-then-not-has_pending-clause-known
+returns-then-not-has_pending-clause-known c =
     let trial = c.args.task.now.trial in
-    untouched_at trial schedules c.args.index c.come_to.new.self.start c.args.pick.core c.requires.is_pick.is_core
-    (c.in_ok-come_to.ensures.start schedules
+    known_at trial c.args.self.now.nodes.items c.args.index c.args.pick.core c.come_to.new.self.start _
+    c.requires.is_pick.is_core
+    (λ schedules tree. c.in_ok-come_to.ensures.start schedules
     (subst (λ (ns : List Node). IsTree trial ns schedules) (sym c.as_slice.ensures.value) tree))
-    (stopped_closed _ (sym c.has_stopped.ensures ∙ c.if-has_stopped.true))
-
-pub returns-then-has_stopped-clause-opened : goal.returns-then-has_stopped-clause-opened
-returns-then-has_stopped-clause-opened c = λ opened. absurd (false≢true opened)
+    (sym (stopped_closed _ (sym c.has_stopped.ensures ∙ c.if-has_stopped.true)))
+    (sym c.if-not-has_pending.true ∙ c.has_pending.ensures)
 
 pub come_to-requires-clause-nodes : goal.come_to-requires-clause-nodes
 come_to-requires-clause-nodes c =
@@ -86,8 +94,8 @@ follow_here-requires-clause-from c = record {
   };
 }
 
-pub returns-then-has_stopped-clause-followed : goal.returns-then-has_stopped-clause-followed
-returns-then-has_stopped-clause-followed c = record {
+pub returns-then-not-has_pending-clause-followed : goal.returns-then-not-has_pending-clause-followed
+returns-then-not-has_pending-clause-followed c = record {
   followed = λ _.
       let trial = c.args.task.now.trial in
       let index = c.args.index in
@@ -99,7 +107,8 @@ returns-then-has_stopped-clause-followed c = record {
       leads_back trial schedules index c.come_to.new.self.start pick c.requires.is_pick.is_core
       (c.in_ok-come_to.ensures.start schedules
       (subst (λ (ns : List Node). IsTree trial ns schedules) (sym c.as_slice.ensures.value) tree))
-      (sym c.has_stopped.ensures ∙ c.if-has_stopped.true));
+      (sym c.has_stopped.ensures ∙ c.if-has_stopped.true)
+      (none_pending _ (sym c.has_pending.ensures ∙ c.if-not-has_pending.true)));
   cut = λ cut. cc;
   has_bench = record {
     bench =

@@ -1,11 +1,15 @@
-use Rattle.std.proofs.Common.{◌≡◌, inl, Bool, true, false, List, None, refl, sym}
-use Rattle.std.specs.Prelude.{not}
-use Rattle.tm_model.specs.declared.outcome.Pick.{Pick}
-use Rattle.tm_outcomes.specs.Nodes.{IsOpenBehind}
+use Rattle.std.proofs.Common.{◌+◌, ◌∙◌, inl, inr, List, Option, None, Some, ap, subst, sym, take, take_all}
+use Rattle.std.proofs.lemmas.List.Elements.{Contains-get_or}
+use Rattle.tm_model.specs.declared.outcome.Event.{Event}
+use Rattle.tm_outcomes.specs.Following.{AreKnownAt, GoesOnFrom}
 use Rattle.tm_outcomes.specs.Outcomes.{IsNoneOrOneOf}
-use Rattle.tm_outcomes.specs.Searching.{IsOneOf, IsThis}
-use Rattle.tm_outcomes.proofs.Following.{follows_so, goes_on_from}
-use Rattle.tm_outcomes.proofs.Grown.{holds_still, none_and_each, none_for_each}
+use Rattle.tm_outcomes.specs.Searching.{IsFollowedIn, IsThis}
+use Rattle.tm_outcomes.specs.declared.bench.Bench.{Bench}
+use Rattle.tm_outcomes.specs.declared.searching.Searching.{Searching}
+use Rattle.tm_outcomes.proofs.Following.{goes_on_from}
+use Rattle.tm_outcomes.proofs.Grown.{known_still, next_of, none_first, passed_over}
+use Rattle.tm_outcomes.proofs.searching.Searching.follow_any.Goals.{then-befalls+in_ok-followed+in-GoesOn-progress}
+use Rattle.tm_outcomes.proofs.searching.Searching.follow_any.Goals.{else-befalls}
 use Rattle.tm_outcomes.proofs.searching.Searching.follow_any.Goals as goal
 
 pub follow-requires-clause-is_pick : goal.follow-requires-clause-is_pick
@@ -14,57 +18,87 @@ follow-requires-clause-is_pick c = record { is_core = c.requires.is_core; allowe
 pub follow-requires-clause-needed : goal.follow-requires-clause-needed
 follow-requires-clause-needed c = λ schedules tree. inl (sym c.requires.usual)
 
-pub follow_each-requires-clause-from : goal.follow_each-requires-clause-from
-follow_each-requires-clause-from c =
-    let left = c.in_ok-followed.ensures.followed in
-    goes_on_from c.args.task.now.trial c.args.task.now.most c.args.index c.args.core c.args.self.now c.follow.new.self
-    c.args.bench.now c.follow.new.bench (IsThis None) c.requires.from (left.followed c.in-GoesOn.is) left.has_bench
-
-is_so : (so : Bool) → not so ≡ false → so ≡ true
-is_so true e = refl
-is_so false e = sym e
-
-pub follow_each-requires-clause-opened : goal.follow_each-requires-clause-opened
-follow_each-requires-clause-opened c =
-    let trial = c.args.task.now.trial in
-    let core = c.args.core in
-    let followed = c.in_ok-followed.ensures in
-    holds_still trial c.args.task.now.most c.args.index core (λ (s : List Pick). IsOpenBehind trial s core)
-    c.args.self.now c.follow.new.self
-    (IsThis None) (followed.followed.followed c.in-GoesOn.is) c.requires.from.tree c.requires.from.within
-    (followed.opened (is_so c.in_ok-followed.followed.was_open c.if-not-followed.false))
-
-pub returns-in_default-clause-followed : goal.returns-in_default-clause-followed
-returns-in_default-clause-followed c =
-    let left = c.in_ok-followed.ensures.followed in
-    record { followed = λ on. cc; cut = λ _. left.cut c.in_default.is; has_bench = left.has_bench }
-
-not_so : (is_so : Bool) → not is_so ≡ true → is_so ≡ false
-not_so true e = sym e
-not_so false e = refl
-
-pub returns-then-not-followed-clause-followed : goal.returns-then-not-followed-clause-followed
-returns-then-not-followed-clause-followed c = record {
-  followed = λ _.
-      none_for_each c.args.task.now.trial c.args.task.now.most c.args.index c.args.core c.args.self.now
-      c.follow.new.self c.args.events.now c.requires.from.within
-      (c.in_ok-followed.ensures.untouched (not_so c.in_ok-followed.followed.was_open c.if-not-followed.true))
-      (c.in_ok-followed.ensures.followed.followed c.in-GoesOn.is);
-  cut = λ cut. cc;
-  has_bench = c.in_ok-followed.ensures.followed.has_bench;
-}
-
-pub returns-clause-followed : goal.returns-clause-followed
-returns-clause-followed c =
+pub loop-event-init : goal.loop-event-init
+loop-event-init c =
     let trial = c.args.task.now.trial in
     let most = c.args.task.now.most in
     let index = c.args.index in
     let core = c.args.core in
-    let events = c.args.events.now in
     let before = c.args.self.now in
-    let middle = c.follow.new.self in
-    let after = c.follow_each.new.self in
-    follows_so trial most index core before middle after c.follow_each.new.bench (IsOneOf events) (IsNoneOrOneOf events)
-    (λ each. none_and_each trial most index core before middle after events c.requires.from.within
-    (c.in_ok-followed.ensures.followed.followed c.in-GoesOn.is) each)
-    c.follow_each.result c.follow_each.ensures.followed
+    let after = c.follow.new.self in
+    let first = c.in_ok-first.ensures in
+    let alone = first.followed.followed c.in-GoesOn.is in
+    record {
+      from = goes_on_from trial most index core before after c.args.bench.now c.follow.new.bench (IsThis None)
+          c.requires.from alone first.followed.has_bench;
+      known = known_still trial most index core before after (IsThis None) c.in_ok-first.first alone
+          c.requires.from.tree c.requires.from.within first.known;
+      found = first.found;
+      followed = none_first trial most index core before after alone;
+    }
+
+pub follow-requires-then-befalls-clause-is_pick : goal.follow-requires-then-befalls-clause-is_pick
+follow-requires-then-befalls-clause-is_pick c = record {
+  is_core = c.requires.is_core;
+  allowed = c.requires.allowed (Some _)
+      (Contains-get_or c.args.events.now c.loop-event.event-index _ c.loop-event-test.true);
+}
+
+pub follow-requires-then-befalls-clause-needed : goal.follow-requires-then-befalls-clause-needed
+follow-requires-then-befalls-clause-needed c = λ schedules tree.
+    inr (c.loop-event.invariant.known.befallen _ (sym c.befalls.ensures ∙ c.if-befalls.true) schedules tree)
+
+pub loop-event-preserved : goal.loop-event-preserved
+loop-event-preserved c =
+    let trial = c.args.task.now.trial in
+    let most = c.args.task.now.most in
+    let index = c.args.index in
+    let core = c.args.core in
+    let events : List Event = c.args.events.now in
+    let at = c.loop-event.event-index in
+    let before = c.args.self.now in
+    let middle = c.loop-event.self in
+    let first = c.in_ok-first.first in
+    let so_far = c.loop-event.invariant in
+    let Under : Option Event → Type 0 = IsNoneOrOneOf (take (at + 1) events) in
+    elim c.if-befalls.branch [
+      | then-befalls+in_ok-followed+in-GoesOn-progress w ↦
+          let after = w.follow-then-befalls.new.self in
+          let left = w.in_ok-followed.ensures.followed in
+          let next = left.followed w.in-GoesOn-progress.is in
+          record {
+            from = subst (λ (s : Searching). GoesOnFrom trial most s c.if-befalls.bench index) (sym w.self-is)
+                (subst (λ (b : Bench). GoesOnFrom trial most after b index) (sym w.bench-is)
+                (goes_on_from trial most index core middle after c.loop-event.bench w.follow-then-befalls.new.bench
+                (IsThis _) so_far.from next left.has_bench));
+            known = subst (λ (s : Searching). AreKnownAt trial s.nodes.items index core first) (sym w.self-is)
+                (known_still trial most index core middle after (IsThis _) first next so_far.from.tree
+                so_far.from.within so_far.known);
+            found = ap (λ (s : Searching). s.found) w.self-is ∙ (w.in_ok-followed.ensures.found ∙ so_far.found);
+            followed = subst (λ (s : Searching). IsFollowedIn trial most before s index core Under) (sym w.self-is)
+                (next_of trial most index core before middle after events at _ c.requires.from.within
+                c.loop-event-test.true so_far.followed next);
+          }
+      | else-befalls w ↦
+          record {
+            from = subst (λ (s : Searching). GoesOnFrom trial most s c.if-befalls.bench index) (sym w.self-is)
+                (subst (λ (b : Bench). GoesOnFrom trial most middle b index) (sym w.bench-is) so_far.from);
+            known = subst (λ (s : Searching). AreKnownAt trial s.nodes.items index core first) (sym w.self-is)
+                so_far.known;
+            found = ap (λ (s : Searching). s.found) w.self-is ∙ so_far.found;
+            followed = subst (λ (s : Searching). IsFollowedIn trial most before s index core Under) (sym w.self-is)
+                (passed_over trial most index core before middle events at _ c.loop-event-test.true
+                (so_far.known.untouched _ (sym c.befalls.ensures ∙ w.if-befalls.false)) so_far.followed);
+          }
+    ]
+
+pub returns-clause-followed : goal.returns-clause-followed
+returns-clause-followed c = record {
+  followed = λ _.
+      let trial = c.args.task.now.trial in
+      subst (λ (events : List Event). IsFollowedIn trial c.args.task.now.most c.args.self.now
+      c.loop-event.self c.args.index c.args.core (IsNoneOrOneOf events))
+      (take_all c.loop-event.event-index c.args.events.now c.loop-event-test.false) c.loop-event.invariant.followed;
+  cut = λ cut. cc;
+  has_bench = c.loop-event.invariant.from.has_bench;
+}

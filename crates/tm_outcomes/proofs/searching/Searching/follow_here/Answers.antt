@@ -16,7 +16,7 @@ use Rattle.tm_outcomes.proofs.Benches.{bench_advanced, bench_grown, place_at, wi
 use Rattle.tm_outcomes.proofs.Follows.{follows}
 use Rattle.tm_outcomes.proofs.Kept.{apart_grown, apart_noted, kept_same, newest_added, newest_same}
 use Rattle.tm_outcomes.proofs.Joined.{to_known, to_new}
-use Rattle.tm_outcomes.proofs.Leads.{alike_stands, opened_at, untouched_at}
+use Rattle.tm_outcomes.proofs.Leads.{alike_stands, known_at}
 use Rattle.tm_outcomes.proofs.Sparing.{sparing_advanced}
 use Rattle.tm_outcomes.proofs.Trees.{schedule_new, schedule_old}
 use Rattle.tm_outcomes.proofs.searching.Searching.follow_here.Goals as goal
@@ -31,46 +31,31 @@ is_open-was_open-requires c =
     let is_core = c.requires.is_pick.is_core in
     omega arith
 
--- what is known where the core was in no transaction that an event aborts
-pub returns-in-Some-clause-untouched : goal.returns-in-Some-clause-untouched
-returns-in-Some-clause-untouched c = λ closed schedules tree.
+pub has_pending-had_pending-requires : goal.has_pending-had_pending-requires
+has_pending-had_pending-requires c =
     let trial = c.args.task.now.trial in
-    untouched_at trial schedules c.args.index c.args.bench.now.here c.args.pick.core c.requires.is_pick.is_core
-    (c.requires.here schedules tree)
-    (sym c.is_open-was_open.ensures ∙ closed)
+    let schedules = c.requires.from.tree.0 in
+    let at : IsAt trial c.args.bench.now.here (schedule_at schedules c.args.index) =
+    c.requires.here schedules c.requires.from.tree.1 in
+    let count = at.count in
+    let is_core = c.requires.is_pick.is_core in
+    omega arith
 
-pub returns-then-len-most-clause-untouched : goal.returns-then-len-most-clause-untouched
-returns-then-len-most-clause-untouched c = λ closed schedules tree.
-    let trial = c.args.task.now.trial in
-    untouched_at trial schedules c.args.index c.args.bench.now.here c.args.pick.core c.requires.is_pick.is_core
-    (c.requires.here schedules tree)
-    (sym c.is_open-was_open.ensures ∙ closed)
+-- what is known of each event
+pub returns-in-Some-clause-known : goal.returns-in-Some-clause-known
+returns-in-Some-clause-known c =
+    known_at c.args.task.now.trial c.args.self.now.nodes.items c.args.index c.args.pick.core c.args.bench.now.here _
+    c.requires.is_pick.is_core c.requires.here c.is_open-was_open.ensures c.has_pending-had_pending.ensures
 
-pub returns-clause-untouched : goal.returns-clause-untouched
-returns-clause-untouched c = λ closed schedules tree.
-    let trial = c.args.task.now.trial in
-    untouched_at trial schedules c.args.index c.args.bench.now.here c.args.pick.core c.requires.is_pick.is_core
-    (c.requires.here schedules tree)
-    (sym c.is_open-was_open.ensures ∙ closed)
+pub returns-then-len-most-clause-known : goal.returns-then-len-most-clause-known
+returns-then-len-most-clause-known c =
+    known_at c.args.task.now.trial c.args.self.now.nodes.items c.args.index c.args.pick.core c.args.bench.now.here _
+    c.requires.is_pick.is_core c.requires.here c.is_open-was_open.ensures c.has_pending-had_pending.ensures
 
--- and where it was in one
-pub returns-in-Some-clause-opened : goal.returns-in-Some-clause-opened
-returns-in-Some-clause-opened c = λ opened schedules tree.
-    opened_at c.args.task.now.trial (schedule_at schedules c.args.index) c.args.bench.now.here c.args.pick.core
-    c.requires.is_pick.is_core
-    (c.requires.here schedules tree) (sym c.is_open-was_open.ensures ∙ opened)
-
-pub returns-then-len-most-clause-opened : goal.returns-then-len-most-clause-opened
-returns-then-len-most-clause-opened c = λ opened schedules tree.
-    opened_at c.args.task.now.trial (schedule_at schedules c.args.index) c.args.bench.now.here c.args.pick.core
-    c.requires.is_pick.is_core
-    (c.requires.here schedules tree) (sym c.is_open-was_open.ensures ∙ opened)
-
-pub returns-clause-opened : goal.returns-clause-opened
-returns-clause-opened c = λ opened schedules tree.
-    opened_at c.args.task.now.trial (schedule_at schedules c.args.index) c.args.bench.now.here c.args.pick.core
-    c.requires.is_pick.is_core
-    (c.requires.here schedules tree) (sym c.is_open-was_open.ensures ∙ opened)
+pub returns-clause-known : goal.returns-clause-known
+returns-clause-known c =
+    known_at c.args.task.now.trial c.args.self.now.nodes.items c.args.index c.args.pick.core c.args.bench.now.here _
+    c.requires.is_pick.is_core c.requires.here c.is_open-was_open.ensures c.has_pending-had_pending.ensures
 
 pub advance-requires-clause-place : goal.advance-requires-clause-place
 advance-requires-clause-place c = c.requires.from.has_bench.bench.here.place
