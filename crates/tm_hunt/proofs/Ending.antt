@@ -5,18 +5,20 @@ use Rattle.ia_image.specs.Program.{ProgramValue as Program}
 use Rattle.tm_core.specs.Theorem.{ShownMachine as Machine}
 use Rattle.tm_hist.specs.Board.{IsFull, IsHistory, ShownBoard as Board}
 use Rattle.tm_check.specs.Checks.{HasEnded, IsViolated, IsViolatedAt, NoneViolated}
+use Rattle.tm_core.specs.declared.limits.Limits.{Limits}
+use Rattle.tm_model.specs.Runs.{picks_of}
 use Rattle.tm_model.specs.declared.outcome.Pick.{Pick}
-use Rattle.tm_pick.specs.Drawn.{AreDrawn}
-use Rattle.tm_pick.specs.Kinds.{AreOfKinds}
+use Rattle.tm_pick.specs.Kinds.{AreAmong, AreOfKinds}
 use Rattle.tm_pick.specs.declared.kinds.Kinds.{Kinds}
 use Rattle.tm_pick.specs.declared.method.Plan.{Plan}
 use Rattle.tm_hunt.specs.Attempts.{ComesTo, IsAttempt, IsFailure}
 use Rattle.tm_hunt.specs.Hunt.{IsOver, IsTrialOf}
-use Rattle.tm_hunt.specs.Runs.{AreStepsOf, IsOfRun}
+use Rattle.tm_hunt.specs.Runs.{AreKindsOf, AreStepsOf, IsOfRun, kinds_told}
 use Rattle.tm_hunt.specs.declared.attempt.Attempt.{Attempt}
 use Rattle.tm_hunt.specs.declared.attempt.Attempt.TheVariants.{Failed}
 use Rattle.tm_hunt.specs.declared.failure.Failure.{Failure}
 use Rattle.tm_hunt.specs.declared.trial.Trial.{Trial}
+use Rattle.tm_hunt.proofs.KeptKinds.{told_of}
 
 not_both : (trial : Trial) (board : Board) (index : ℕ) → NoneViolated board trial.checks.now →
     IsViolatedAt board trial.checks.now index → ⊥
@@ -52,25 +54,33 @@ attempt_of trial made board of_trial is_run so attempt came = record {
 }
 
 -- steps of what begins the run of a number are that run's
-pub run_of_number : {Steps : Type 0} (begins : Plan → ℕ → ℕ → Steps → Type 0)
+pub run_of_number : {Steps : Type 0} (begins : Plan → ℕ → ℕ → ℕ → Steps → Type 0)
     (picks : Steps → Machine → ℕ → List ℕ → Pick → Steps → Type 0) (kinds_of : Steps → Kinds)
-    (plan : Plan) (number cores : ℕ) (first : Steps) (trial : Trial) → begins plan number cores first
-    → AreDrawn plan.events (kinds_of first) →
-    cores ≡ length trial.program.now.entries
+    (plan : Plan) (number cores : ℕ) (first : Steps) (trial : Trial)
+    → begins plan number cores trial.limits.stores first → AreKindsOf plan.events trial.limits.stores (kinds_of first)
+    → cores ≡ length trial.program.now.entries
     → (attempt : Attempt) → IsAttempt trial (AreStepsOf picks kinds_of first) attempt
     → IsAttempt trial (IsOfRun begins picks plan number) attempt
 run_of_number begins picks kinds_of plan number cores first trial begun drawn count attempt h =
     let same : cores ≡ length h.board.program.entries =
     count ∙ ap (λ (program : Program). length program.entries) (sym h.run.of_trial.program) in
+    let room : trial.limits.stores ≡ h.board.limits.stores =
+    sym (ap (λ (limits : Limits). limits.stores) h.run.of_trial.limits) in
     record {
       board = h.board;
       run = h.run;
       so = record {
         first = first;
-        begun = subst (λ (n : ℕ). begins plan number n first) same begun;
+        begun = subst (λ (n : ℕ). begins plan number (length h.board.program.entries) n first) room
+            (subst (λ (n : ℕ). begins plan number n trial.limits.stores first) same begun);
         last = h.so.last;
         made = h.so.made;
-        under = (kinds_of first, drawn, h.so.kinds);
+        under = (
+          drawn.0,
+          drawn.1,
+          told_of h.board.limits.stores (kinds_of first) drawn.0 (picks_of h.board.history)
+              (subst (λ (n : ℕ). AreAmong (kinds_of first) (kinds_told n drawn.0)) room drawn.2) h.so.kinds,
+        );
       };
       came_to = h.came_to;
     }
@@ -87,8 +97,12 @@ failure_of trial made failure h = record {
   whole = λ short. h.came_to.2;
 }
 
--- and its events are of the kinds of what picked its steps
+-- and its events are of the kinds of what picked its steps, or drains for which they wait
 pub failure_kinds : {Steps : Type 0} (picks : Steps → Machine → ℕ → List ℕ → Pick → Steps → Type 0)
     (kinds_of : Steps → Kinds) (first : Steps) (trial : Trial) (failure : Failure) →
-    IsAttempt trial (AreStepsOf picks kinds_of first) (Failed failure) → AreOfKinds (kinds_of first) failure.picks.items
-failure_kinds picks kinds_of first trial failure h = subst (AreOfKinds (kinds_of first)) (sym h.came_to.1) h.so.kinds
+    IsAttempt trial (AreStepsOf picks kinds_of first) (Failed failure) →
+    AreOfKinds (kinds_told trial.limits.stores (kinds_of first)) failure.picks.items
+failure_kinds picks kinds_of first trial failure h =
+    subst (λ (stores : ℕ). AreOfKinds (kinds_told stores (kinds_of first)) failure.picks.items)
+    (ap (λ limits. limits.stores) h.run.of_trial.limits)
+    (subst (AreOfKinds (kinds_told h.board.limits.stores (kinds_of first))) (sym h.came_to.1) h.so.kinds)

@@ -43,7 +43,7 @@ no_stop o none = λ some. let e : None ≡ Some some.0 = sym none ∙ some.1 in 
 -- ---- one step
 
 -- the step that leads from one board to the other
-step_is : (before after : Board) (core : ℕ) (outcome : Outcome) (h : IsHistory before) (l : IsHistory after)
+pub step_is : (before after : Board) (core : ℕ) (outcome : Outcome) (h : IsHistory before) (l : IsHistory after)
     → SameBoard before after →
     after.history ≡ before.history ++ (core, outcome) ∷ [] → step (board_setting before) h.end core outcome ≡ Some l.end
 step_is before after core outcome h l same more =
@@ -52,13 +52,14 @@ step_is before after core outcome h l same more =
     subst (λ (made : List (ℕ × Outcome)). run (board_setting after) (opening_state after.program) made ≡ Some l.end)
     more l.is_run in
     let of_limits :
-    run (program_setting after.program before.limits.read_lines before.limits.write_lines 0)
+    run (program_setting after.program before.limits.read_lines before.limits.write_lines before.limits.stores)
     (opening_state after.program) (before.history ++ (core, outcome) ∷ []) ≡ Some l.end =
-    subst (λ (limits : Limits). run (program_setting after.program limits.read_lines limits.write_lines 0)
+    subst (λ (limits : Limits). run (program_setting after.program limits.read_lines limits.write_lines limits.stores)
     (opening_state after.program) (before.history ++ (core, outcome) ∷ []) ≡ Some l.end) same.limits more_is in
     let of_program :
     run (board_setting before) (opening_state before.program) (before.history ++ (core, outcome) ∷ []) ≡ Some l.end =
-    subst (λ (program : Program). run (program_setting program before.limits.read_lines before.limits.write_lines 0)
+    subst (λ (program : Program).
+    run (program_setting program before.limits.read_lines before.limits.write_lines before.limits.stores)
     (opening_state program) (before.history ++ (core, outcome) ∷ []) ≡ Some l.end) same.program of_limits in
     run_last (board_setting before) (opening_state before.program) before.history (core, outcome) h.end l.end
     of_program h.is_run

@@ -8,3 +8,4 @@ pub mod KeptKinds
 pub mod Shortenings
 pub mod Costs
 pub mod Cycles
+pub mod Drained

@@ -3,8 +3,8 @@ use Rattle.std.proofs.Common.{◌≡◌, ◌≤◌, ◌∙◌, refl, arith}
 use Rattle.tm_hunt.specs.Attempts.{IsFailure}
 use Rattle.tm_hunt.specs.Deciding.{cost_told}
 use Rattle.tm_hunt.specs.Hunt.{IsTrialOf}
-use Rattle.tm_hunt.specs.Kept.{KeepsKinds}
-use Rattle.tm_hunt.specs.Shortening.{CanShorten, Shortens}
+use Rattle.tm_hunt.specs.Kept.{ComesOf, HasDrain, KeepsKinds}
+use Rattle.tm_hunt.specs.Shortening.{CanShorten, Shortens, Simplifies}
 use Rattle.tm_hunt.specs.declared.failure.Failure.{Failure}
 use Rattle.tm_hunt.specs.declared.shortening.Front.{Front}
 use Rattle.tm_hunt.specs.declared.trial.Trial.{Trial}
@@ -68,14 +68,47 @@ tried_other trial front after best can kinds of_trial = record {
 -- another front, and the schedule that it leads to
 pub took_other : (trial : Trial) (front after : Front) (best failure : Failure) → IsFailure trial failure →
     failure.check ≡ best.check → cost_told failure ≤ cost_told best →
-    KeepsKinds front.steps.items after.steps.items → KeepsKinds after.steps.items failure.picks.items →
+    KeepsKinds front.steps.items after.steps.items →
+    ComesOf trial.limits.stores after.steps.items failure.picks.items →
+    (HasDrain failure.picks.items → HasDrain best.picks.items) →
     IsTrialOf trial after.board → Shortens trial front best after failure
-took_other trial front after best failure fails same simpler kinds led of_trial = record {
+took_other trial front after best failure fails same simpler kinds led drains of_trial = record {
   again = record { fails = fails; of_trial = of_trial };
   same = same;
   simpler = simpler;
-  kinds = keep_other front.steps.items best.picks.items after.steps.items failure.picks.items kinds led;
+  kinds = keep_other trial.limits.stores front.steps.items best.picks.items after.steps.items failure.picks.items kinds
+      led drains;
 }
 
 -- for the tries of a front
 pub ruleset trying = (board_of_trial, tried, tried_other, took_other)
+
+-- ---- a simpler failure
+
+pub simplifies_none : (trial : Trial) (best : Failure) → IsFailure trial best → Simplifies trial best best
+simplifies_none trial best fails =
+    record { fails = fails; same = refl; simpler = omega arith; kinds = λ kinds h. h }
+
+pub simplifies_more : (trial : Trial) (first middle last : Failure) → Simplifies trial first middle →
+    Simplifies trial middle last → Simplifies trial first last
+simplifies_more trial first middle last one other = record {
+  fails = other.fails;
+  same = other.same ∙ one.same;
+  simpler = let a = one.simpler in let b = other.simpler in omega arith;
+  kinds = λ kinds h. other.kinds kinds (one.kinds kinds h);
+}
+
+pub fails_again : (trial : Trial) (old best : Failure) → Simplifies trial old best → IsFailure trial best
+fails_again trial old best simpler = simpler.fails
+
+-- by a front of its steps
+pub simplifies_by : (trial : Trial) (front after : Front) (old best : Failure) →
+    KeepsKinds old.picks.items front.steps.items → Shortens trial front old after best → Simplifies trial old best
+simplifies_by trial front after old best kept shortens = record {
+  fails = shortens.again.fails;
+  same = shortens.same;
+  simpler = shortens.simpler;
+  kinds = λ kinds h. shortens.kinds.best kinds (kept kinds h) h;
+}
+
+pub ruleset simplifying = (simplifies_none, simplifies_more, fails_again)

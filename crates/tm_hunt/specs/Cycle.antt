@@ -21,7 +21,8 @@ use Rattle.tm_hunt.specs.declared.trial.Trial.{Trial}
 
 -- the rules of a trial's machine
 abbrev pub trial_setting : Trial → Setting
-trial_setting trial = program_setting trial.program.now trial.limits.read_lines trial.limits.write_lines 0
+trial_setting trial =
+    program_setting trial.program.now trial.limits.read_lines trial.limits.write_lines trial.limits.stores
 
 pub record IsMachineOf (trial : Trial) (machine : Machine) : Type 0 where
   pub rules : machine_setting machine ≡ trial_setting trial
@@ -31,12 +32,16 @@ pub record IsMachineOf (trial : Trial) (machine : Machine) : Type 0 where
 abbrev pub AreCoresAlike : Machine → Machine → ℕ → Type 0
 AreCoresAlike a b count = (core : ℕ) → core < count → view_at a core ≡ view_at b core
 
+-- and so are their stores that are pending
+abbrev pub ArePendingAlike : Machine → Machine → ℕ → Type 0
+ArePendingAlike a b count = (core : ℕ) → core < count → pending_at a core ≡ pending_at b core
+
 -- what is shown of memory and of each core is the same, with the stores that are pending
 pub record AreAlike (a b : Machine) : Type 0 where
   pub memory : a.memory ≡ b.memory
   pub count : length a.views ≡ length b.views
   pub each : AreCoresAlike a b (length a.views)
-  pub pending : (core : ℕ) → core < length a.views → pending_at a core ≡ pending_at b core
+  pub pending : ArePendingAlike a b (length a.views)
 
 -- these steps lead from a machine to another one, in each run that comes to the first
 pub record Makes (before after : Machine) (picks : List Pick) : Type 0 where

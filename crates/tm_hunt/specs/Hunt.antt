@@ -12,7 +12,8 @@ pub record IsTrialOf (trial : Trial) (board : Board) : Type 0 where
   pub limits : board.limits ≡ trial.limits
   pub most : board.limit ≡ trial.most
 
--- the board after exactly these steps from the program's opening state: the events are those that aborted a transaction
+-- the board after exactly these steps from the program's opening state: the events are those that aborted a
+-- transaction, and drains
 pub record RunsTo (trial : Trial) (picks : List Pick) (board : Board) : Type 0 where
   pub of_trial : IsTrialOf trial board
   pub steps : picks_of board.history ≡ picks

@@ -1,5 +1,5 @@
 -- How the steps of a run come about.
-use Rattle.std.specs.Prelude.{◌≡◌, ◌<◌, ◌↔◌, ℕ, List, [], ◌∷◌, ◌++◌, Contains, length}
+use Rattle.std.specs.Prelude.{◌≡◌, ◌<◌, ◌↔◌, ℕ, zero, suc, true, List, [], ◌∷◌, ◌++◌, Contains, length}
 use Rattle.tm_core.specs.Theorem.{ShownMachine as Machine}
 use Rattle.tm_hist.specs.Board.{IsHistory, IsOwedNext, IsStopped, SameBoard, ShownBoard as Board}
 use Rattle.tm_hist.specs.Machine.{core_count}
@@ -7,7 +7,7 @@ use Rattle.tm_model.specs.Runs.{picks_of}
 use Rattle.tm_model.specs.declared.outcome.Outcome.{Outcome}
 use Rattle.tm_model.specs.declared.outcome.Pick.{Pick}
 use Rattle.tm_pick.specs.Drawn.{AreDrawn}
-use Rattle.tm_pick.specs.Kinds.{AreOfKinds}
+use Rattle.tm_pick.specs.Kinds.{AreAmong, AreOfKinds}
 use Rattle.tm_pick.specs.declared.events.Events.{Events}
 use Rattle.tm_pick.specs.declared.kinds.Kinds.{Kinds}
 use Rattle.tm_pick.specs.declared.method.Plan.{Plan}
@@ -46,24 +46,39 @@ pub data AreMade {Steps : Type 0} (picks : Steps → Machine → ℕ → List �
   one_more : {source next : Steps} {before after : Board} → AreMade picks first source before
       → IsNext picks source next before after → AreMade picks first next after
 
--- all steps of a board are those that are picked from here on, and their events are of its kinds
+-- The kinds of the events that a run tells of whose steps come under events of these: where stores may be pending, a
+-- step that waits for them is a drain.
+abbrev pub kinds_told : ℕ → Kinds → Kinds
+kinds_told zero kinds = kinds
+kinds_told (suc stores) kinds = record kinds { drain = true }
+
+-- the steps of a board tell of events of these kinds, and of drains for which they wait
+abbrev pub AreToldOf : Kinds → Board → Type 0
+AreToldOf kinds board = AreOfKinds (kinds_told board.limits.stores kinds) (picks_of board.history)
+
+-- all steps of a board are those that are picked from here on, under events of its kinds
 pub record AreStepsOf {Steps : Type 0} (picks : Steps → Machine → ℕ → List ℕ → Pick → Steps → Type 0)
     (kinds_of : Steps → Kinds) (first : Steps) (board : Board) : Type 0 where
   pub last : Steps
   pub made : AreMade picks first last board
-  pub kinds : AreOfKinds (kinds_of first) (picks_of board.history)
+  pub kinds : AreToldOf (kinds_of first) board
 
--- the events of a schedule are such as these runs come under: of their kinds, and none where they have none
-abbrev pub AreUnder : Events → List Pick → Type 0
-AreUnder events picks = (kinds : Kinds) × AreDrawn events kinds × AreOfKinds kinds picks
+-- the kinds of the events under which the steps of a run are picked: those that are drawn for it, none where it has
+-- none, and drains where stores may be pending
+abbrev pub AreKindsOf : Events → ℕ → Kinds → Type 0
+AreKindsOf events stores kinds = (drawn : Kinds) × AreDrawn events drawn × AreAmong kinds (kinds_told stores drawn)
 
--- What makes runs says by `begins` what picks the steps of the run of a number by a plan, for so many cores. All steps
--- of the board are those of the run of this number.
-pub record IsOfRun {Steps : Type 0} (begins : Plan → ℕ → ℕ → Steps → Type 0)
+-- the steps of a board come under such events as these runs do: of their kinds, and none where they have none
+abbrev pub AreUnder : Events → Board → Type 0
+AreUnder events board = (kinds : Kinds) × AreDrawn events kinds × AreToldOf kinds board
+
+-- What makes runs says by `begins` what picks the steps of the run of a number by a plan, for so many cores of which so
+-- many stores each may be pending. All steps of the board are those of the run of this number.
+pub record IsOfRun {Steps : Type 0} (begins : Plan → ℕ → ℕ → ℕ → Steps → Type 0)
     (picks : Steps → Machine → ℕ → List ℕ → Pick → Steps → Type 0) (plan : Plan) (run : ℕ) (board : Board)
     : Type 0 where
   pub first : Steps
-  pub begun : begins plan run (length board.program.entries) first
+  pub begun : begins plan run (length board.program.entries) board.limits.stores first
   pub last : Steps
   pub made : AreMade picks first last board
-  pub under : AreUnder plan.events (picks_of board.history)
+  pub under : AreUnder plan.events board

@@ -3,7 +3,7 @@ use Rattle.std.specs.Prelude.{◌≡◌, ◌≤◌}
 use Rattle.tm_hunt.specs.Attempts.{IsFailure}
 use Rattle.tm_hunt.specs.Deciding.{cost_told}
 use Rattle.tm_hunt.specs.Hunt.{IsTrialOf}
-use Rattle.tm_hunt.specs.Kept.{KeepKinds}
+use Rattle.tm_hunt.specs.Kept.{KeepKinds, KeepsKinds}
 use Rattle.tm_hunt.specs.declared.failure.Failure.{Failure}
 use Rattle.tm_hunt.specs.declared.shortening.Front.{Front}
 use Rattle.tm_hunt.specs.declared.trial.Trial.{Trial}
@@ -20,3 +20,11 @@ pub record Shortens (trial : Trial) (old_front : Front) (old : Failure) (front :
   pub same : best.check ≡ old.check
   pub simpler : cost_told best ≤ cost_told old
   pub kinds : KeepKinds old_front.steps.items old.picks.items front.steps.items best.picks.items
+
+-- a failure became this one: it fails by the same check, is told no less simply, and no event is there of a kind that
+-- was not
+pub record Simplifies (trial : Trial) (old best : Failure) : Type 0 where
+  pub fails : IsFailure trial best
+  pub same : best.check ≡ old.check
+  pub simpler : cost_told best ≤ cost_told old
+  pub kinds : KeepsKinds old.picks.items best.picks.items

@@ -1,33 +1,50 @@
-//! Machines that are shown alike: their cores, and all bytes of memory.
+//! Machines that are shown alike: their cores, with the stores that are pending, and all bytes of memory.
 //!
 //! [`are_alike`] looks at memory only where the cores are alike, since that takes longest. Who compares two
 //! machines time and again asks [`are_same_at`] first, at the place where [`first_difference`] was the last time.
 
 ghost use Rattle.std.specs.Prelude.{◌≡◌, ◌≤◌, IsTrue, length};
-ghost use Rattle.tm_hunt.specs.Cycle.{AreAlike, AreCoresAlike};
+ghost use Rattle.tm_core.specs.Theorem.{pending_at};
+ghost use Rattle.tm_hunt.specs.Cycle.{AreAlike, AreCoresAlike, ArePendingAlike};
 
 use tm_core::Machine;
 
 /// Whether two machines are shown alike: the cores, and memory, which is compared where all of them are alike.
-#[tactic(auto, using(tm_core::proofs::NonePending::none_alike))]
 pub fn are_alike(a: &Machine, b: &Machine) -> bool
     ensures { IsTrue result → AreAlike a.now b.now }
 {
-    a.nothing_pending();
-    b.nothing_pending();
     are_cores_alike(a, b) && a.view() == b.view()
 }
 
-/// Whether all cores of two machines are shown alike.
+/// Whether all cores of two machines are shown alike, and their stores that are pending.
 pub fn are_cores_alike(a: &Machine, b: &Machine) -> bool
     ensures count { IsTrue result → length a.now.views ≡ length b.now.views }
     ensures each { IsTrue result → AreCoresAlike a.now b.now (length a.now.views) }
+    ensures pending { IsTrue result → ArePendingAlike a.now b.now (length a.now.views) }
 {
     if a.cores() != b.cores() {
         return false;
     }
     for core in 0..a.cores() {
-        if !a.is_core_alike(b, core) {
+        if !a.is_core_alike(b, core) || !is_pending_alike(a, b, core) {
+            return false;
+        }
+    }
+    true
+}
+
+// Whether the same stores of a core are pending.
+fn is_pending_alike(a: &Machine, b: &Machine, core: u8) -> bool
+    ensures { IsTrue result → pending_at a.now core ≡ pending_at b.now core }
+{
+    let (Ok(one), Ok(other)) = (a.pending(core), b.pending(core)) else {
+        return false;
+    };
+    if one.len() != other.len() {
+        return false;
+    }
+    for index in 0..one.len() {
+        if one[index] != other[index] {
             return false;
         }
     }

@@ -4,11 +4,11 @@
 //! Each call makes a new list, as a try that does not fail leaves the old one standing. Indices behind the end cut
 //! nothing. Which cuts are made, and in what order, is said in `shortening`.
 
-ghost use Rattle.std.specs.Prelude.{IfOk, IfSome};
-ghost use Rattle.tm_hunt.specs.Kept.{KeepsKinds};
+ghost use Rattle.std.specs.Prelude.{IfOk, IfSome, IsTrue, false, true, ◌≡◌};
+ghost use Rattle.tm_hunt.specs.Kept.{HasDrain, KeepsKinds};
 
 use std::alloc::{AllocError, Global};
-use tm_model::Pick;
+use tm_model::{Event, Pick};
 
 /// The first steps of a list.
 #[tactic(auto, using(crate::proofs::KeptKinds::keeps_front))]
@@ -72,6 +72,34 @@ pub fn joined(alloc: Global, steps: &[Pick], start: usize) -> Result<Option<Vec<
     Ok(Some(moved))
 }
 
+/// The steps with the one at an index moved before the one at a lower index.
+pub fn moved_before(
+    alloc: Global,
+    steps: &[Pick],
+    place: usize,
+    at: usize,
+) -> Result<Vec<Pick>, AllocError>
+    ensures { IfOk result (λ moved. KeepsKinds steps.now moved.items) }
+{
+    let behind = at.saturating_add(1);
+    let mut moved = Vec::with_capacity(alloc, steps.len())?;
+    moved.extend_from_slice(part(steps, 0, place))?;
+    moved.extend_from_slice(part(steps, at, behind))?;
+    moved.extend_from_slice(part(steps, place, at))?;
+    moved.extend_from_slice(part(steps, behind, steps.len()))?;
+    Ok(moved)
+}
+
+/// Where the first drain from an index on stands.
+pub fn next_drain(steps: &[Pick], start: usize) -> Option<usize> {
+    for index in start..steps.len() {
+        if steps[index].event == Some(Event::Drain) {
+            return Some(index);
+        }
+    }
+    None
+}
+
 // Where the core at an index steps again, from another index on.
 fn next_burst(steps: &[Pick], start: usize, from: usize) -> Option<usize> {
     for index in from..steps.len() {
@@ -109,4 +137,24 @@ pub fn without_event(alloc: Global, steps: &[Pick], index: usize) -> Result<Vec<
     })?;
     left.extend_from_slice(part(steps, index.saturating_add(1), steps.len()))?;
     Ok(left)
+}
+
+/// Whether a drain is among the steps of a new list only where one is among those of the old one.
+pub fn has_no_new_drain(old: &[Pick], new: &[Pick]) -> bool
+    ensures { IsTrue result → HasDrain new.now → HasDrain old.now }
+{
+    !has_drain(new) || has_drain(old)
+}
+
+// Whether some step is a drain.
+fn has_drain(steps: &[Pick]) -> bool
+    ensures some { result ≡ true → HasDrain steps.now }
+    ensures none { result ≡ false → HasDrain steps.now → ⊥ }
+{
+    for pick in steps {
+        if pick.event == Some(Event::Drain) {
+            return true;
+        }
+    }
+    false
 }

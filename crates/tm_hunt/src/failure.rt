@@ -10,7 +10,7 @@ use tm_model::Pick;
 /// A run that violates a check.
 #[derive(Debug, Drop)]
 pub struct Failure {
-    /// The picks of its steps: a core each, and the event that aborted its transaction, if any.
+    /// The picks of its steps: a core each, and the event that aborted its transaction, if any, or that it is a drain.
     pub picks: Vec<Pick>,
     /// The index of the first check that it violates.
     pub check: usize,

@@ -5,15 +5,14 @@
 //! Whether the run failed is asked behind it, by `attempt`.
 
 ghost use Rattle.std.specs.Prelude.{◌≡◌, ◌≢◌, ◌↔◌, ◌<◌, ◌+◌, ◌++◌, ◌∷◌, ◌⊎◌, [], ℕ, All, Contains, IfErr, IfOk, IsTrue};
-ghost use Rattle.std.specs.Prelude.{None, length};
-ghost use Rattle.tm_hist.specs.Board.{IsOwedNext, SameBoard};
-ghost use Rattle.tm_model.specs.Runs.{event_told, picks_of};
+ghost use Rattle.std.specs.Prelude.{length};
+ghost use Rattle.tm_hist.specs.Board.{IsOwedNext, SameBoard, TellsOf};
 ghost use Rattle.tm_rule.specs.declared.kinds.Stop.{Stop};
-ghost use Rattle.tm_pick.specs.Kinds.{AreOfKinds, IsOfKinds};
+ghost use Rattle.tm_pick.specs.Kinds.{IsOfKinds};
 ghost use Rattle.tm_pick.specs.declared.kinds.Kinds.{Kinds};
 ghost use Rattle.tm_hunt.specs.Attempts.{IsBoardRefusal};
 ghost use Rattle.tm_hunt.specs.Hunt.{IsOver, IsTrialOf, SomeViolated};
-ghost use Rattle.tm_hunt.specs.Runs.{AreLeft, AreStepsOf, IsStep};
+ghost use Rattle.tm_hunt.specs.Runs.{AreLeft, AreStepsOf, AreToldOf, IsStep};
 
 use crate::source::StepSource;
 use crate::trial::Trial;
@@ -77,15 +76,14 @@ fn all_cores(board: &Board) -> Going
 }
 
 // Makes the step of a pick, and takes its core out where it stops.
-#[tactic(auto, using(crate::proofs::Told::step_of))]
 fn step_one(board: &mut Board, going: &mut Going, pick: Pick) -> Outcome
     requires left { AreLeft board.old going.old }
     requires among { Contains going.old pick.core }
     requires room { length board.old.history < board.old.limit }
     ensures step { IsStep pick board.old board.new }
     ensures left { AreLeft board.new going.new }
-    ensures kinds { (kinds : Kinds) → IsOfKinds kinds pick.event → AreOfKinds kinds (picks_of board.old.history) →
-        AreOfKinds kinds (picks_of board.new.history) }
+    ensures kinds { (kinds : Kinds) → IsOfKinds kinds pick.event → AreToldOf kinds board.old →
+        AreToldOf kinds board.new }
 {
     board.is_run();
     let outcome = make_step(board, pick);
@@ -118,14 +116,15 @@ fn is_violated(trial: &Trial<'_>, board: &Board, outcome: Outcome) -> bool
     }
 }
 
-// Makes the step of a pick, under its event if it has one. What it comes to tells of that event or of none.
+// Makes the step of a pick, under its event if it has one. What it comes to tells of that event or of none, or is the
+// drain for which the step waits.
 fn make_step(board: &mut Board, pick: Pick) -> Outcome
     requires is_core { pick.core < length board.old.program.entries }
     requires room { length board.old.history < board.old.limit }
     ensures same { SameBoard board.old board.new }
     ensures owed { IsOwedNext pick.event board.old pick.core result }
     ensures made { board.new.history ≡ board.old.history ++ (pick.core, result) ∷ [] }
-    ensures told { (event_told result ≡ None) ⊎ (event_told result ≡ pick.event) }
+    ensures told { TellsOf pick.event result }
 {
     match board.step_by(pick) {
         Ok(outcome) => outcome,

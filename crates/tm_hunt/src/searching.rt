@@ -39,7 +39,8 @@ pub struct Search {
 }
 
 /// Makes the runs of these numbers by a plan, from the first one up to the end, until one violates a check. They come
-/// under the events of the plan, and under none where it has none.
+/// under the events of the plan, and under none where it has none; where stores may be pending, each draws which of its
+/// steps are drains.
 pub fn first_failing<S: RunSource>(
     alloc: Global,
     trial: &Trial<'_>,
@@ -88,6 +89,6 @@ fn run_of<S: RunSource>(
     ensures ok { IfOk result (IsAttempt trial.now (IsOfRun S.begins S.Steps.picks plan number)) }
     ensures err { IfErr result (IsRefusal trial.now) }
 {
-    let mut steps = runs.run(plan, number, trial.program.cores());
+    let mut steps = runs.run(plan, number, trial.program.cores(), trial.limits.stores);
     try_run(alloc, trial, board, &mut steps)
 }

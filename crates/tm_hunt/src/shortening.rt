@@ -1,25 +1,34 @@
 //! A shorter schedule that fails by the same check: [`shorten`].
 //!
 //! In this order the end is cut off, then events, bursts and steps; bursts are put side by side, and steps cut once
-//! more, by at most 4096 tries of each. A try (`cuts`) is the run of a front with what comes behind it, so that
-//! whatever is kept was made and fails. A run at the limit keeps its rounds: their loop is looked for by `cycle`.
+//! more; and where stores may be pending each drain that is left comes as early as it may (`delays`): what is late
+//! then has to be. Each is done by at most 4096 tries. A try (`cuts`) is the run of a front with what comes behind it,
+//! so that whatever is kept was made and fails. A run at the limit keeps its rounds: their loop is looked for by
+//! `cycle`.
 
 ghost use Rattle.std.specs.Prelude.{◌≡◌, ◌≤◌, IfErr, IfOk, IfSome};
 ghost use Rattle.tm_hunt.specs.Attempts.{IsFailure, IsRefusal};
 ghost use Rattle.tm_hunt.specs.Deciding.{cost_told};
 ghost use Rattle.tm_hunt.specs.Hunt.{IsTrialOf};
-ghost use Rattle.tm_hunt.specs.Kept.{KeepsKinds};
-ghost use Rattle.tm_hunt.specs.Shortening.{CanShorten, Shortens};
+ghost use Rattle.tm_hunt.specs.Cycle.{IsMachineOf};
+ghost use Rattle.tm_hunt.specs.Kept.{ComesOf, KeepsKinds};
+ghost use Rattle.tm_hunt.specs.Shortening.{CanShorten, Shortens, Simplifies};
 ghost use Rattle.tm_pick.specs.Kinds.{AreAmong, AreOfKinds};
 ghost use Rattle.tm_pick.specs.declared.kinds.Kinds.{Kinds};
 
 use crate::attempt::{Attempt, HuntFault, try_run};
 use crate::cost::cost;
-use crate::cuts::{burst_end, front_of, joined, last_event, without, without_event};
+use crate::cuts::{
+    burst_end, front_of, has_no_new_drain, joined, last_event, moved_before, next_drain, without,
+    without_event,
+};
+use crate::delays::early_place;
 use crate::failure::Failure;
 use crate::one_run::board_of;
 use crate::trial::Trial;
+use crate::walker::machine_of;
 use std::alloc::Global;
+use tm_core::Machine;
 use tm_hist::Board;
 use tm_model::Pick;
 use tm_pick::Picker;
@@ -39,12 +48,14 @@ pub struct Front {
 /// Makes a failing schedule shorter, which fails then by the same check: its shortest front, with which the run fails
 /// where the cores then run to their ends one after another; then the front without some of its events; then without
 /// some of its bursts and some of its steps (delta debugging, after Zeller and Hildebrandt, IEEE TSE 2002); then with
-/// bursts of one core side by side. Each is tried, and kept where it fails and is no less simple: in steps, four times
-/// the switches and four times the events. No event is there that was not. Of a run that reached the limit on steps the
-/// front is what is made simpler: behind it each core steps in turn, up to the limit.
+/// bursts of one core side by side; and where stores may be pending with each drain as early as it may come. Each is
+/// tried, and kept where it fails and is no less simple: in steps, four times the switches and four times the events.
+/// No event is there of a kind that was not: where no step is a drain, a try of which one is, since it waits, is not
+/// kept. Of a run that reached the limit on steps the front is what is made simpler: behind it each core steps in turn,
+/// up to the limit.
 ///
 /// Where memory is refused, the schedule is the shortest that was found till then.
-#[tactic(auto, using(crate::proofs::KeptKinds::keeps_all))]
+#[tactic(auto, using(crate::proofs::Shortenings::simplifying))]
 pub fn shorten(alloc: Global, trial: &Trial<'_>, best: &mut Failure) -> Result<(), HuntFault>
     requires { IsFailure trial.now best.old }
     ensures fails { IsFailure trial.now best.new }
@@ -53,10 +64,38 @@ pub fn shorten(alloc: Global, trial: &Trial<'_>, best: &mut Failure) -> Result<(
     ensures kinds { KeepsKinds best.old.picks.items best.new.picks.items }
     ensures err { IfErr result (IsRefusal trial.now) }
 {
+    cut_front(alloc, trial, best)?;
+    if trial.limits.stores == 0 {
+        return Ok(());
+    }
+    hasten_drains(alloc, trial, best)
+}
+
+// Cuts steps and events, and puts bursts side by side.
+#[tactic(auto, using(crate::proofs::Shortenings::simplifying))]
+fn cut_front(alloc: Global, trial: &Trial<'_>, best: &mut Failure) -> Result<(), HuntFault>
+    requires { IsFailure trial.now best.old }
+    ensures simpler { Simplifies trial.now best.old best.new }
+    ensures err { IfErr result (IsRefusal trial.now) }
+{
     let steps = Vec::from_slice(alloc, best.picks.as_slice())?;
     let board = board_of(alloc, trial)?;
     let mut front = Front { steps, board };
     front.shorten(alloc, trial, best)
+}
+
+// Lets each drain come as early as it may.
+#[tactic(auto, using(crate::proofs::Shortenings::simplifying))]
+fn hasten_drains(alloc: Global, trial: &Trial<'_>, best: &mut Failure) -> Result<(), HuntFault>
+    requires { IsFailure trial.now best.old }
+    ensures simpler { Simplifies trial.now best.old best.new }
+    ensures err { IfErr result (IsRefusal trial.now) }
+{
+    let mut machine = machine_of(alloc, trial)?;
+    let board = board_of(alloc, trial)?;
+    let steps = Vec::new(alloc);
+    let mut front = Front { steps, board };
+    front.hasten(alloc, trial, &mut machine, best)
 }
 
 impl Front {
@@ -104,7 +143,8 @@ fn failure_of(
 ) -> Result<Option<Failure>, HuntFault>
     requires of_trial { IsTrialOf trial.now board.old }
     ensures fails { IfOk result (λ found. IfSome found (IsFailure trial.now)) }
-    ensures kinds { IfOk result (λ found. IfSome found (λ failure. KeepsKinds front.now failure.picks.items)) }
+    ensures kinds { IfOk result (λ found. IfSome found (λ failure.
+        ComesOf trial.now.limits.stores front.now failure.picks.items)) }
     ensures of_trial { IsTrialOf trial.now board.new }
     ensures err { IfErr result (IsRefusal trial.now) }
 {
@@ -159,6 +199,9 @@ impl Front {
             return Ok(false);
         };
         if failure.check != best.check {
+            return Ok(false);
+        }
+        if !has_no_new_drain(best.picks.as_slice(), failure.picks.as_slice()) {
             return Ok(false);
         }
         // It is not the best, but it fails: what is cut from it next may be simpler.
@@ -325,6 +368,77 @@ impl Front {
                 return Ok(());
             }
         }
+        Ok(())
+    }
+}
+
+impl Front {
+    // Moves each drain to where it may come at the earliest, the first first, so that one behind it may follow.
+    #[tactic(auto, using(crate::proofs::Shortenings::simplifying))]
+    fn hasten(
+        &mut self,
+        alloc: Global,
+        trial: &Trial<'_>,
+        machine: &mut Machine,
+        best: &mut Failure,
+    ) -> Result<(), HuntFault>
+        requires can { CanShorten trial.now self.old best.old }
+        requires machine { IsMachineOf trial.now machine.old }
+        ensures simpler { Simplifies trial.now best.old best.new }
+        ensures err { IfErr result (IsRefusal trial.now) }
+    {
+        let mut from = 0;
+        'tries: for _ in 0..MOST_TRIES {
+            let Some(at) = next_drain(best.deciding(), from) else {
+                return Ok(());
+            };
+            self.hasten_at(alloc, trial, machine, at, best)?;
+            from = at.saturating_add(1);
+        }
+        Ok(())
+    }
+
+    // Moves the drain at an index of the best schedule to where it may come at the earliest.
+    #[tactic(auto, using(crate::proofs::Shortenings::simplifying))]
+    fn hasten_at(
+        &mut self,
+        alloc: Global,
+        trial: &Trial<'_>,
+        machine: &mut Machine,
+        at: usize,
+        best: &mut Failure,
+    ) -> Result<(), HuntFault>
+        requires can { CanShorten trial.now self.old best.old }
+        requires machine { IsMachineOf trial.now machine.old }
+        ensures can { CanShorten trial.now self.new best.new }
+        ensures machine { IsMachineOf trial.now machine.new }
+        ensures simpler { Simplifies trial.now best.old best.new }
+        ensures err { IfErr result (IsRefusal trial.now) }
+    {
+        match early_place(trial, machine, best.deciding(), at) {
+            Some(place) => self.try_earlier(alloc, trial, place, at, best),
+            None => Ok(()),
+        }
+    }
+
+    // Tries the best schedule with the step at an index moved before the one at a lower index.
+    #[tactic(auto, using(crate::proofs::Shortenings::simplifying))]
+    fn try_earlier(
+        &mut self,
+        alloc: Global,
+        trial: &Trial<'_>,
+        place: usize,
+        at: usize,
+        best: &mut Failure,
+    ) -> Result<(), HuntFault>
+        requires { CanShorten trial.now self.old best.old }
+        ensures can { CanShorten trial.now self.new best.new }
+        ensures simpler { Simplifies trial.now best.old best.new }
+        ensures err { IfErr result (IsRefusal trial.now) }
+    {
+        self.steps = Vec::from_slice(alloc, best.deciding())?;
+        let other = moved_before(alloc, self.steps.as_slice(), place, at)?;
+        let _fails = self.try_steps(alloc, trial, other, best)?;
         Ok(())
     }
 }

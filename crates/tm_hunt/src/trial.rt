@@ -12,7 +12,7 @@ use tm_core::Limits;
 pub struct Trial<'a> {
     /// The program.
     pub program: &'a Program,
-    /// How many lines a transaction can touch.
+    /// How many lines a transaction can touch, and how many stores of a core may be pending.
     pub limits: Limits,
     /// The most steps of a run, 1 to 16,777,216.
     pub most: u32,

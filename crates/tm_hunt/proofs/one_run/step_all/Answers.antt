@@ -14,7 +14,7 @@ steps-init g c = record {
   last = sym (ap (last_core 0) c.requires.new);
   made = none_made c.requires.new;
   same_kinds = refl;
-  kinds = none_told (g.S.StepSource.kinds c.args.source.now) c.args.board.now.history c.requires.new;
+  kinds = none_told (g.S.StepSource.kinds c.args.source.now) c.args.board.now c.requires.new;
 }
 
 -- each core has stopped

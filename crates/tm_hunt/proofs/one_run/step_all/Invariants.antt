@@ -1,8 +1,6 @@
 use Rattle.std.proofs.Common.{◌≡◌, ◌-◌, length}
 use Rattle.tm_hist.specs.Board.{SameBoard}
-use Rattle.tm_model.specs.Runs.{picks_of}
-use Rattle.tm_pick.specs.Kinds.{AreOfKinds}
-use Rattle.tm_hunt.specs.Runs.{AreLeft, AreMade, last_core}
+use Rattle.tm_hunt.specs.Runs.{AreLeft, AreMade, AreToldOf, last_core}
 use Rattle.tm_hunt.proofs.one_run.step_all.Given as goal
 
 abbrev pub invariant-steps : goal.invariant-steps
@@ -12,7 +10,7 @@ invariant-steps g l = record {
   last : l.last ≡ last_core 0 l.board.history;
   made : AreMade g.S.StepSource.picks l.fn.source l.source l.board;
   same_kinds : g.S.StepSource.kinds l.source ≡ g.S.StepSource.kinds l.fn.source;
-  kinds : AreOfKinds (g.S.StepSource.kinds l.fn.source) (picks_of l.board.history);
+  kinds : AreToldOf (g.S.StepSource.kinds l.fn.source) l.board;
 }
 
 abbrev pub decreases-steps : goal.decreases-steps
