@@ -14,6 +14,7 @@ same_counts same old new steps kept are = record {
   steps_told = kept.steps_told ∙ are.steps_told;
   outside = kept.outside ∙ are.outside;
   idle = kept.idle ∙ are.idle;
+  drained = kept.drained ∙ are.drained;
   under_way = λ core small. ap (λ l. slice_index l core) kept.under_way ∙ are.under_way core small;
   places = λ q. ap (λ es. unwrap_or (lookup (nat_eq q) es) zero_counts) kept.places ∙ are.places q;
   causes = λ q. ap (λ es. unwrap_or (lookup (same_cause same q) es) 0) kept.causes ∙ are.causes q;

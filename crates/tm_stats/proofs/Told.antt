@@ -4,7 +4,8 @@ use Rattle.std.proofs.Common.{if◌then◌else◌, slice_index, slice_set, sym, 
 use Rattle.std.proofs.lemmas.List.{get_or-set_same, get_or-set_other}
 use Rattle.std.proofs.lemmas.Bool.{cases_eq, eq-eqb, ne_eqb}
 use Rattle.tm_stats.specs.Causes.{cause_counted}
-use Rattle.tm_stats.specs.Counts.{AreCounts, SameCounts, how_many, is_aborted, is_committed, is_idle, is_outside}
+use Rattle.tm_stats.specs.Counts.{AreCounts, SameCounts, how_many, is_aborted, is_committed, is_drained}
+use Rattle.tm_stats.specs.Counts.{is_idle, is_outside}
 use Rattle.tm_stats.specs.Counts.{lines_read, lines_written, open_after, open_steps, same_cause, same_size, steps_taken}
 use Rattle.tm_stats.specs.Places.{Fits, after_step, counts_at}
 use Rattle.tm_stats.specs.Tally.{counted, total_of}
@@ -23,6 +24,7 @@ pub record IsTold (same : AbortCause → AbortCause → Bool) (old new : RunCoun
   pub steps_told : old.steps + 1 < 2 ^ 64 → new.steps ≡ old.steps + 1
   pub outside : old.outside + 1 < 2 ^ 64 → new.outside ≡ counted (is_outside step.outcome) old.outside
   pub idle : old.idle + 1 < 2 ^ 64 → new.idle ≡ counted (is_idle step.outcome) old.idle
+  pub drained : old.drained + 1 < 2 ^ 64 → new.drained ≡ counted (is_drained step.outcome) old.drained
   pub longer : before + 1 < 2 ^ 64 → length_now ≡ before + 1
   pub reads_told : reads_now ≡ step.reads
   pub writes_told : writes_now ≡ step.writes
@@ -92,6 +94,8 @@ told_counts {same} {old} {room} {new} {step} {before} {after} {length_now} {read
       outside =
           one_more (λ one. is_outside one.outcome) step steps room.outside new.outside few are.outside told.outside;
       idle = one_more (λ one. is_idle one.outcome) step steps room.idle new.idle few are.idle told.idle;
+      drained =
+          one_more (λ one. is_drained one.outcome) step steps room.drained new.drained few are.drained told.drained;
       under_way = λ core within.
           ap (λ l. slice_index l core) told.under_way
           ∙ under_way_told room.under_way step steps after told.core told.cores

@@ -42,6 +42,11 @@ abbrev pub is_idle : Outcome → Bool
 is_idle Idle = true
 is_idle outcome = false
 
+-- the drain of a store that was pending
+abbrev pub is_drained : Outcome → Bool
+is_drained Drained = true
+is_drained outcome = false
+
 -- ---- counts
 
 abbrev pub how_many : (Step → Bool) → List Step → ℕ
@@ -128,6 +133,7 @@ pub record AreCounts (same : AbortCause → AbortCause → Bool) (counts : RunCo
   pub steps_told : counts.steps ≡ length steps
   pub outside : counts.outside ≡ how_many (λ step. is_outside step.outcome) steps
   pub idle : counts.idle ≡ how_many (λ step. is_idle step.outcome) steps
+  pub drained : counts.drained ≡ how_many (λ step. is_drained step.outcome) steps
   pub under_way : (core : ℕ) → core < 256 → slice_index counts.under_way core ≡ open_steps core steps
   pub places : (place : ℕ) → counts_at counts.places place ≡ counts_of place steps
   pub causes : (key : PlaceCause) →
@@ -144,6 +150,7 @@ pub record SameCounts (old new : RunCounts) : Type 0 where
   pub steps_told : new.steps ≡ old.steps
   pub outside : new.outside ≡ old.outside
   pub idle : new.idle ≡ old.idle
+  pub drained : new.drained ≡ old.drained
   pub under_way : new.under_way ≡ old.under_way
   pub places : new.places.entries ≡ old.places.entries
   pub causes : new.causes.entries ≡ old.causes.entries

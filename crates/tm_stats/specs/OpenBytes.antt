@@ -7,18 +7,14 @@ use Rattle.std.specs.List.{list_any}
 use Rattle.std.specs.HashSet.{contains}
 use Rattle.tm_model.specs.Access.{loaded_addresses}
 use Rattle.tm_model.specs.declared.outcome.Outcome.{Outcome}
-use Rattle.tm_model.specs.declared.outcome.Outcome.TheVariants.{Drained, Inside}
-use Rattle.tm_stats.specs.Counts.{is_committed}
+use Rattle.tm_model.specs.declared.outcome.Outcome.TheVariants.{Inside}
+use Rattle.tm_stats.specs.Counts.{is_committed, is_drained}
 use Rattle.tm_stats.specs.declared.open_bytes.ByteStep.{ByteStep}
 use Rattle.tm_stats.specs.declared.open_bytes.OpenBytes.{OpenBytes}
 
 abbrev pub is_inside : Outcome → Bool
 is_inside Inside = true
 is_inside outcome = false
-
-abbrev pub is_drained : Outcome → Bool
-is_drained Drained = true
-is_drained outcome = false
 
 abbrev pub is_among : List ℕ → ℕ → Bool
 is_among addresses address = list_any (λ one. nat_eq one address) addresses

@@ -13,6 +13,7 @@ ghost use Rattle.tm_stats.specs.Places.{Fits, after_step, counts_at};
 ghost use Rattle.tm_stats.specs.Tally.{counted, total_of};
 
 use crate::cause::AbortCause;
+use crate::open_bytes::is_drained;
 use crate::place_counts::{NO_COUNTS, PlaceCounts};
 use crate::step::{PlaceCause, PlaceSize, Step};
 use crate::tally::{Tally, add_one, count_if, plus};
@@ -29,6 +30,8 @@ pub struct RunCounts {
     pub outside: u64,
     /// How many of them were of cores that had stopped.
     pub idle: u64,
+    /// How many of them were drains of stores that were pending.
+    pub drained: u64,
     /// For each core, how many steps it has made in its open transaction; 0 where it has none.
     pub under_way: [u64; 256],
     /// What the transactions of each place came to.
@@ -55,6 +58,7 @@ impl RunCounts {
             steps: 0,
             outside: 0,
             idle: 0,
+            drained: 0,
             under_way: [0; 256],
             places: IndexMap::new(alloc),
             causes: IndexMap::new(alloc),
@@ -87,6 +91,7 @@ impl RunCounts {
         self.steps = plus(self.steps, 1);
         self.outside = count_if(self.outside, is_outside(outcome));
         self.idle = count_if(self.idle, is_idle(outcome));
+        self.drained = count_if(self.drained, is_drained(outcome));
         count_place(&mut self.places, place, outcome, before);
         count_cause(&mut self.causes, place, outcome, cause);
         count_size(&mut self.lengths, place, outcome, plus(before, 1));

@@ -7,8 +7,8 @@
 ghost use Rattle.std.specs.Prelude.{◌≡◌, ◌+◌, ◌<◌, ◌≤◌, ◌||◌, ◌∷◌, [], ℕ, List, OnErr, OnOk, nat_eq, IsTrue, ◌↔◌};
 ghost use Rattle.indexmap.specs.IndexSet.{contains, spare};
 ghost use Rattle.tm_model.specs.Access.{loaded_addresses};
-ghost use Rattle.tm_stats.specs.Counts.{is_committed};
-ghost use Rattle.tm_stats.specs.OpenBytes.{is_among, is_drained, is_inside};
+ghost use Rattle.tm_stats.specs.Counts.{is_committed, is_drained};
+ghost use Rattle.tm_stats.specs.OpenBytes.{is_among, is_inside};
 
 use ia_addr::Access;
 use ia_word::Width;
@@ -108,8 +108,8 @@ fn is_inside(outcome: Outcome) -> bool
     matches!(outcome, Outcome::Inside)
 }
 
-// Whether a step was the drain of a store that was pending.
-fn is_drained(outcome: Outcome) -> bool
+/// Whether a step was the drain of a store that was pending.
+pub fn is_drained(outcome: Outcome) -> bool
     ensures { result ≡ is_drained outcome }
 {
     matches!(outcome, Outcome::Drained)

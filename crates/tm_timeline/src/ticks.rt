@@ -49,7 +49,7 @@ fn draw_rows<O: Out>(svg: &mut Svg<'_, O>, sheet: &Sheet<'_>) {
 }
 
 // A step of the row that begins there: on it where the step is outside of transactions, and below the bar where it is
-// one of a transaction. Its title says what it was.
+// one of a transaction, or the drain of a store. Its title says what it was.
 fn draw_step<O: Out>(
     svg: &mut Svg<'_, O>,
     sheet: &Sheet<'_>,
@@ -63,7 +63,7 @@ fn draw_step<O: Out>(
     let next = sheet.window.place(step.number.saturating_add(1));
     let width = next.past(x).less_gap();
     let look = look_of(step);
-    let (y, height) = if look.is_inside {
+    let (y, height) = if look.is_below {
         (top + BAR + 2, 3)
     } else {
         (top + BAR / 2 - 4, 8)
@@ -90,14 +90,14 @@ fn draw_step<O: Out>(
 // How a step is drawn.
 #[derive(Clone, Copy)]
 struct Look {
-    // Whether it is one of a transaction.
-    is_inside: bool,
+    // Whether it is drawn below the bar, as those of a transaction are.
+    is_below: bool,
     class: &'static str,
     word: &'static str,
 }
 
 fn look_of(step: Step) -> Look {
-    let (is_inside, class, word) = match step.outcome {
+    let (is_below, class, word) = match step.outcome {
         Outcome::Plain if step.waits => (false, "v", "plain, waits"),
         Outcome::Loaded if step.waits => (false, "v", "loaded, waits"),
         Outcome::Plain => (false, "g", "plain"),
@@ -109,10 +109,11 @@ fn look_of(step: Step) -> Look {
         Outcome::Committed => (true, "t", "committed"),
         Outcome::Aborted(_) => (true, "t", "aborted"),
         Outcome::AbortedBy(_, _) => (true, "t", "aborted"),
-        Outcome::Drained => (false, "g", "drained"),
+        // Below the row: its core may be in a transaction, whose step it is not.
+        Outcome::Drained => (true, "g", "drained"),
     };
     Look {
-        is_inside,
+        is_below,
         class,
         word,
     }

@@ -1,18 +1,19 @@
 -- What a step did (docs/FORMATS.md, "Traces"): where its instruction stands, what it is, and the numbers that it loaded
 -- and stored.
-use Rattle.std.specs.Prelude.{◌≡◌, ℕ, ◌+◌, ◌-◌, ◌*◌, ◌^◌, ◌&&◌, Bool, true, false, if◌then◌else◌, drop, length}
-use Rattle.std.specs.Prelude.{nat_le, nat_lt, Option, Some, None, Result, Ok, Err}
+use Rattle.std.specs.Prelude.{◌≡◌, ℕ, ◌+◌, ◌-◌, ◌*◌, ◌^◌, ◌&&◌, Bool, true, false, if◌then◌else◌, [], ◌∷◌, drop}
+use Rattle.std.specs.Prelude.{length, nat_le, nat_lt, Option, Some, None, Result, Ok, Err}
 use Rattle.ia_image.specs.Program.{ProgramValue as Program, code_of}
 use Rattle.ia_insn.specs.Reading.{decoding_of}
 use Rattle.ia_insn.specs.declared.fault.DecodeFault.{DecodeFault}
 use Rattle.ia_insn.specs.declared.op.Insn.{Insn}
 use Rattle.ia_word.specs.declared.width.Width.{Width}
 use Rattle.ia_word.specs.declared.width.Width.TheVariants.{B, D}
-use Rattle.tm_core.specs.Theorem.{ShownMachine as Machine, StandsFor, machine_setting, view_at}
+use Rattle.tm_core.specs.Theorem.{ShownMachine as Machine, StandsFor, machine_setting, pending_at}
+use Rattle.tm_core.specs.Theorem.{view_at}
 use Rattle.tm_core.specs.Seen.{byte_seen}
 use Rattle.tm_model.specs.Conflicts.{Doomed}
 use Rattle.tm_model.specs.Explained.{IsReachTold}
-use Rattle.tm_model.specs.State.{State, seen_by}
+use Rattle.tm_model.specs.State.{Pending, State, seen_by}
 use Rattle.tm_model.specs.declared.explain.Reach.{Reach}
 use Rattle.tm_model.specs.declared.outcome.Outcome.{Outcome}
 use Rattle.tm_model.specs.declared.outcome.Outcome.TheVariants as outcome
@@ -30,7 +31,8 @@ abbrev pub instruction_at : Program → ℕ → Option Insn
 instruction_at program at =
     if nat_le program.base at then insn_read (decoding_of (drop (at - program.base) (code_of program))) else None
 
--- the number that a core sees at an address, lowest byte first: its own transaction's bytes lie over memory
+-- the number that a core sees at an address, lowest byte first: its stores that are pending lie over memory, and its
+-- own transaction's bytes over these
 abbrev pub value_seen : Machine → ℕ → Width → ℕ → ℕ
 value_seen machine core B at = byte_seen machine core at
 value_seen machine core D at =
@@ -59,6 +61,12 @@ datum_seen machine core (Some access) =
     })
     else None
 
+-- the oldest of these stores, as the number that it puts in memory
+abbrev pub oldest_store : Pending → Option Datum
+oldest_store [] = None
+oldest_store (oldest ∷ younger) =
+    Some (record { address = oldest.addr; width = oldest.width; value = oldest.value })
+
 -- what the machine says before a core's next step of the bytes that it reaches
 abbrev pub IsReachSaid : Machine → ℕ → Reach → Type 0
 IsReachSaid machine core told =
@@ -72,6 +80,7 @@ pub record IsBefore (machine : Machine) (program : Program) (core : ℕ) (before
   pub insn : before.insn ≡ instruction_at program (view_at machine core).regs.eip
   pub reach : IsReachSaid machine core before.reach
   pub loaded : before.loaded ≡ datum_seen machine core before.reach.load
+  pub oldest : before.oldest ≡ oldest_store (pending_at machine core)
 
 -- a step that its instruction made, and that goes on; of others no number is told
 abbrev pub tells_reach : Outcome → Bool
@@ -86,9 +95,16 @@ tells_reach (outcome.Aborted status) = false
 tells_reach (outcome.AbortedBy by status) = false
 tells_reach outcome.Drained = false
 
--- what the step of an outcome did, by the machine behind it
+-- a step in whose place the oldest store reached memory: its instruction did not run
+abbrev pub is_drain : Outcome → Bool
+is_drain outcome.Drained = true
+is_drain _ = false
+
+-- what the step of an outcome did, by the machine behind it: a drain, what the machine before it had pending
 pub record IsDeed (before : Before) (machine : Machine) (core : ℕ) (outcome : Outcome) (deed : Deed) : Type 0 where
   pub eip : deed.eip ≡ before.eip
-  pub insn : deed.insn ≡ before.insn
+  pub insn : deed.insn ≡ (if is_drain outcome then None else before.insn)
   pub loaded : deed.loaded ≡ (if tells_reach outcome then before.loaded else None)
-  pub stored : deed.stored ≡ (if tells_reach outcome then datum_seen machine core before.reach.store else None)
+  pub stored : deed.stored
+      ≡ (if is_drain outcome then before.oldest
+      else if tells_reach outcome then datum_seen machine core before.reach.store else None)

@@ -1,15 +1,16 @@
 //! What a step does, told from the machine before it and behind it.
 //!
 //! [`Before::of`] is asked first, or [`Before::reaching`] of a step that was previewed, and keeps what the core sees
-//! where the step loads, as the step may store there. Behind the step [`Before::deed`] looks at where it stored, and
-//! leaves out both where the outcome says that the instruction did not go on. The step is made by the caller between
-//! the two.
+//! where the step loads, as the step may store there, and the oldest store that is pending. Behind the step
+//! [`Before::deed`] looks at where it stored, and leaves out both where the outcome says that the instruction did not
+//! go on. Of a drain it tells the store that reached memory, and no instruction: none ran. The step is made by the
+//! caller between the two.
 
 ghost use Rattle.std.specs.Prelude.{◌≡◌, ◌↔◌, ◌<◌, IfSome, IsSome, length, true};
 ghost use Rattle.tm_core.specs.Seen.{byte_seen};
-ghost use Rattle.tm_core.specs.Theorem.{view_at};
-ghost use Rattle.tm_trace.specs.Deeds.{IsBefore, IsDeed, IsReachSaid, datum_seen, instruction_at, is_in_memory};
-ghost use Rattle.tm_trace.specs.Deeds.{last_of, tells_reach, value_seen};
+ghost use Rattle.tm_core.specs.Theorem.{pending_at, view_at};
+ghost use Rattle.tm_trace.specs.Deeds.{IsBefore, IsDeed, IsReachSaid, datum_seen, instruction_at, is_drain};
+ghost use Rattle.tm_trace.specs.Deeds.{is_in_memory, last_of, oldest_store, tells_reach, value_seen};
 
 use ia_addr::Access;
 use ia_image::Program;
@@ -34,11 +35,12 @@ pub struct Datum {
 pub struct Deed {
     /// The address that its core showed before it: of a doomed core that of the XBEGIN which it goes back to.
     pub eip: u32,
-    /// The instruction that stands there, if one does.
+    /// The instruction that stands there, if one does; none where the step was a drain.
     pub insn: Option<Insn>,
     /// What it loaded.
     pub loaded: Option<Datum>,
-    /// What it stored: in memory, or in a transaction what that keeps for itself.
+    /// What it stored: in memory, or in a transaction what that keeps for itself, or where stores may be pending what
+    /// its core alone sees until a drain. Of a drain, what reached memory.
     pub stored: Option<Datum>,
 }
 
@@ -50,6 +52,8 @@ pub struct Before {
     reach: Reach,
     // What the core sees where it loads.
     loaded: Option<Datum>,
+    // The oldest store that is pending.
+    oldest: Option<Datum>,
 }
 
 impl Before {
@@ -77,22 +81,30 @@ impl Before {
             insn: insn_at(program, eip),
             reach,
             loaded: datum_seen(machine, core, reach.load),
+            oldest: oldest_store(machine, core),
         }
     }
 
     /// What the step did, from the machine behind it and its outcome: one that stopped, begun, ended, or was idle
-    /// reached nothing.
+    /// reached nothing, and a drain put the oldest pending store in memory.
     pub fn deed(&self, machine: &Machine, core: u8, outcome: &Outcome) -> Deed
         requires { core < length machine.now.views }
         ensures { IsDeed self.now machine.now core outcome.now result }
     {
         let stored = datum_seen(machine, core, self.reach.store);
         let has_reached = tells_reach(outcome);
+        let is_drain = is_drain(outcome);
         Deed {
             eip: self.eip,
-            insn: self.insn,
+            insn: if is_drain { None } else { self.insn },
             loaded: if has_reached { self.loaded } else { None },
-            stored: if has_reached { stored } else { None },
+            stored: if is_drain {
+                self.oldest
+            } else if has_reached {
+                stored
+            } else {
+                None
+            },
         }
     }
 }
@@ -102,6 +114,13 @@ fn tells_reach(outcome: &Outcome) -> bool
     ensures { result ≡ tells_reach outcome.now }
 {
     matches!(outcome, Outcome::Plain | Outcome::Loaded | Outcome::Inside)
+}
+
+// Whether the oldest store of the core reached memory in the step's place.
+fn is_drain(outcome: &Outcome) -> bool
+    ensures { result ≡ is_drain outcome.now }
+{
+    matches!(outcome, Outcome::Drained)
 }
 
 fn eip_of(machine: &Machine, core: u8) -> u32
@@ -137,6 +156,23 @@ fn datum_seen(machine: &Machine, core: u8, access: Option<Access>) -> Option<Dat
     } else {
         None
     }
+}
+
+// The oldest store of a core that is pending.
+fn oldest_store(machine: &Machine, core: u8) -> Option<Datum>
+    requires { core < length machine.now.views }
+    ensures { result ≡ oldest_store (pending_at machine.now core) }
+{
+    let pending = machine.pending(core).unwrap();
+    if pending.is_empty() {
+        return None;
+    }
+    let oldest = pending[0];
+    Some(Datum {
+        address: oldest.addr,
+        width: oldest.width,
+        value: oldest.value,
+    })
 }
 
 fn last_of(width: Width) -> u32

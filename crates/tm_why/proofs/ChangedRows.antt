@@ -5,20 +5,15 @@ use Rattle.std.specs.Option.{is_some, option_or}
 use Rattle.std.proofs.lemmas.Bool.{eq-eqb, ne_eqb}
 use Rattle.tm_model.specs.declared.explain.Hit.{Hit}
 use Rattle.tm_model.specs.declared.outcome.Outcome.{Outcome}
-use Rattle.tm_model.specs.Runs.{is_aborted_by}
 use Rattle.tm_why.specs.Rows.{row_after, row_after_other, row_after_own, row_if_other}
 use Rattle.tm_why.specs.Types.{Asked, StandingHit, Watched}
-use Rattle.tm_why.specs.Watched.{hit_made, hit_on, outside}
+use Rattle.tm_why.specs.Watched.{hit_made, outside}
 use Rattle.tm_why.proofs.FilledRows.{passed_next}
 use borrow.Author.Count.{below_more}
 
 or_none : (hit : Option StandingHit) → option_or hit None ≡ hit
 or_none None = refl
 or_none (Some hit) = refl
-
-none_made : (aborted : Bool) (hit : Option Hit) → hit ≡ None → cond aborted None hit ≡ None
-none_made true hit none = refl
-none_made false hit none = none
 
 either : (b : Bool) (row other : Watched) → other ≡ row → cond b row other ≡ row
 either true row other same = refl
@@ -30,18 +25,17 @@ not_some (Some hit) e = cc
 
 module _ (asked : Asked) (outcome : Outcome) (number : ℕ) where
   -- one that is not hit
-  pub other_none : (core : ℕ) (row : Watched) → hit_on asked core ≡ None →
+  pub other_none : (core : ℕ) (row : Watched) → hit_made (asked, outcome) core ≡ None →
       row_if_other core asked outcome number row ≡ row
   other_none core row none =
-      either (core == asked.core) row (row_after_other row (hit_made (asked, outcome) core) asked number)
-      (ap (λ hit. row_after_other row hit asked number)
-      (none_made (is_aborted_by outcome) (hit_on asked core) none)
+      either (core == asked.core) row (row_after_other row (asked, outcome) (hit_made (asked, outcome) core) number)
+      (ap (λ hit. row_after_other row (asked, outcome) hit number) none
       ∙ ap (λ hit. record { begun = row.begun; hit = hit }) (or_none row.hit))
 
   -- the core's own
   pub other_own : (core : ℕ) (row : Watched) → core ≡ asked.core → row_if_other core asked outcome number row ≡ row
   other_own core row own =
-      ap (λ b. cond b row (row_after_other row (hit_made (asked, outcome) core) asked number))
+      ap (λ b. cond b row (row_after_other row (asked, outcome) (hit_made (asked, outcome) core) number))
       (eq-eqb core asked.core own)
 
   -- one of another core
@@ -49,10 +43,10 @@ module _ (asked : Asked) (outcome : Outcome) (number : ℕ) where
       row_after core asked outcome number row ≡ row_if_other core asked outcome number row
   other_is core row apart =
       ap (λ b. cond b (row_after_own row outcome number)
-      (row_after_other row (hit_made (asked, outcome) core) asked number))
+      (row_after_other row (asked, outcome) (hit_made (asked, outcome) core) number))
       (ne_eqb core asked.core apart)
       ∙ sym
-      (ap (λ b. cond b row (row_after_other row (hit_made (asked, outcome) core) asked number))
+      (ap (λ b. cond b row (row_after_other row (asked, outcome) (hit_made (asked, outcome) core) number))
       (ne_eqb core asked.core apart))
 
   -- ---- one row more

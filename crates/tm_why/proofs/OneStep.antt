@@ -22,7 +22,7 @@ row_after_is core asked outcome steps =
     by_field (core == asked.core)
     (begun_by outcome (suc (length steps)) (begun_in core steps)) (begun_in core steps)
     (left_by outcome (hit_in core steps))
-    (option_or (hit_in core steps) (standing (suc (length steps)) asked (hit_made (asked, outcome) core)))
+    (option_or (hit_in core steps) (standing (suc (length steps)) (asked, outcome) (hit_made (asked, outcome) core)))
 
 -- so for the rows of all cores
 pub one_step : (rows news : List Watched) (asked : Asked) (outcome : Outcome) (number : ℕ) (steps : List Told) →

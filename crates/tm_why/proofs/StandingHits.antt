@@ -1,19 +1,20 @@
 -- A hit stands on a core exactly while the core is doomed.
-use Rattle.std.proofs.Common.{◌≡◌, ◌⊎◌, inl, inr, ℕ, suc, Bool, true, false, eqb, if◌then◌else◌, List, [], ◌∷◌, length}
-use Rattle.std.proofs.Common.{Option, Some, None, refl, sym, ap, ◌∙◌, subst}
+use Rattle.std.proofs.Common.{◌≡◌, ◌⊎◌, inl, inr, ℕ, suc, ◌<◌, Bool, true, false, eqb, if◌then◌else◌, List, [], ◌∷◌}
+use Rattle.std.proofs.Common.{length, Option, Some, None, refl, sym, ap, ◌∙◌, subst, arith}
 use Rattle.std.specs.Prelude.{IsSome, MatchOption}
 use Rattle.std.specs.Option.{is_some, option_or}
 use Rattle.std.proofs.lemmas.Bool.{eqb-true, eq-eqb, true≢false}
 use Rattle.tm_model.specs.Conflicts.{Doomed, addresses_loaded_by, addresses_written_by, doom_after_other}
 use Rattle.tm_model.specs.Conflicts.{doom_after_own, doomed_after}
-use Rattle.tm_model.specs.Explained.{IsHitTold, owed_now}
+use Rattle.tm_model.specs.Explained.{owed_now}
 use Rattle.tm_model.specs.Owed.{owed_outcome, owed_under, owed_with_pending}
-use Rattle.tm_model.specs.Runs.{is_aborted_by}
+use Rattle.tm_model.specs.Runs.{event_told, is_aborted_by}
 use Rattle.tm_model.specs.Setting.{Setting}
 use Rattle.tm_model.specs.State.{Closed, Core, Halted, Midway, Opened, Pending, State, seen_by, seen_memory}
 use Rattle.tm_model.specs.Steps.{must_wait}
 use Rattle.tm_model.specs.declared.outcome.Event.{Event}
 use Rattle.tm_model.specs.declared.outcome.Event.TheVariants as event
+use Rattle.tm_model.specs.declared.outcome.Event.TheVariants.{Drain}
 use Rattle.tm_model.specs.declared.outcome.Interference.{Interference}
 use Rattle.tm_model.specs.declared.outcome.Outcome.{Outcome}
 use Rattle.tm_model.specs.declared.outcome.Outcome.TheVariants.{Aborted, AbortedBy, Begun, Committed, Idle, Inside}
@@ -21,9 +22,9 @@ use Rattle.tm_model.specs.declared.outcome.Outcome.TheVariants.{Drained, Loaded,
 use Rattle.tm_model.specs.declared.explain.Hit.{Hit}
 use Rattle.tm_core.proofs.ExplainLaws.{condemn}
 use Rattle.tm_model.proofs.Events.{abort_hits_nobody, aborted_by_none, no_event_told}
-use Rattle.tm_why.specs.Standing.{AreStanding, HitsStand, asked_under}
+use Rattle.tm_why.specs.Standing.{AreHitsTold, AreStanding, HitsStand}
 use Rattle.tm_why.specs.Types.{Asked, StandingHit}
-use Rattle.tm_why.specs.Watched.{Told, hit_in, hit_made, hit_on, left_by, standing}
+use Rattle.tm_why.specs.Watched.{Told, drain_hit_on, hit_in, hit_made, hit_on, is_drain, left_by, standing}
 
 -- ---- the core's own step
 
@@ -104,46 +105,83 @@ or_some (Some hit) more = refl
 abbrev IsTold : Option ℕ → Option ℕ → Option Hit → Type 0
 IsTold before after told = MatchOption told (after ≡ before) (λ (h : Hit). (before ≡ None) × IsSome after)
 
-told_other : (number : ℕ) (asked : Asked) (told : Option Hit) (before after : Option ℕ) (hit : Option StandingHit) →
+told_other : (number : ℕ) (step : Told) (told : Option Hit) (before after : Option ℕ) (hit : Option StandingHit) →
     IsTold before after told → is_some before ≡ is_some hit →
-    is_some after ≡ is_some (option_or hit (standing number asked told))
-told_other number asked None before after hit m e = ap is_some m ∙ e ∙ sym (or_none hit)
-told_other number asked (Some h) before after hit m e =
-    m.1 ∙ sym (or_some hit (record { step = number; core = asked.core; eip = asked.eip; hit = h }))
+    is_some after ≡ is_some (option_or hit (standing number step told))
+told_other number step None before after hit m e = ap is_some m ∙ e ∙ sym (or_none hit)
+told_other number step (Some h) before after hit m e =
+    m.1 ∙ sym (or_some hit (record {
+      step = number;
+      core = step.0.core;
+      eip = step.0.eip;
+      is_drain = is_drain step.1;
+      hit = h;
+    }))
 
--- an event aborts the core, or the step is the one that was asked
-befalls : (event : Option Event) (setting : Setting) (memory : List ℕ) (pending : Pending) (core : Core)
-    (doom : Option ℕ) → (owed_under event setting memory pending core doom
-    ≡ owed_under (asked_under event) setting memory pending core doom)
-    ⊎ ((by : Interference) × ((status : ℕ) × (owed_under event setting memory pending core doom ≡ AbortedBy by status)))
-befalls None setting memory pending core doom = inl refl
-befalls (Some event.Drain) setting memory pending core doom = inl refl
-befalls (Some (event.Abort by)) setting memory pending (Opened regs steps) None = inr (by, (_, refl))
-befalls (Some (event.Abort by)) setting memory pending (Opened regs steps) (Some depth) = inl refl
-befalls (Some (event.Abort by)) setting memory pending (Halted regs stop) doom = inl refl
-befalls (Some (event.Abort by)) setting memory pending (Closed regs) doom = inl refl
-befalls (Some (event.Abort by)) setting memory pending (Midway regs value) doom = inl refl
+-- ---- what is owed under an event: an abort by it, or a drain, or the step that is made without, and no drain
 
--- which is no abort from outside
-waits_alone : (waits : Bool) (outcome : Outcome) → is_aborted_by outcome ≡ false →
-    is_aborted_by (if waits then Drained else outcome) ≡ false
-waits_alone true outcome none = refl
-waits_alone false outcome none = none
+abbrev IsStep : Outcome → Outcome → Type 0
+IsStep owed alone = (owed ≡ alone) × ((is_aborted_by owed ≡ false) × (is_drain owed ≡ false))
 
-pending_alone : (setting : Setting) (memory : List ℕ) (pending : Pending) (core : Core) (doom : Option ℕ) →
-    is_aborted_by (owed_with_pending setting memory pending core doom) ≡ false
-pending_alone setting memory pending core doom =
+abbrev Befalls : Outcome → Pending → Outcome → Type 0
+Befalls owed pending alone =
+    ((by : Interference) × ((status : ℕ) × (owed ≡ AbortedBy by status)))
+    ⊎ (((owed ≡ Drained) × (0 < length pending)) ⊎ IsStep owed alone)
+
+no_drain : (outcome : Outcome) → event_told outcome ≡ None → is_drain outcome ≡ false
+no_drain Drained tells = cc
+no_drain (AbortedBy by status) tells = refl
+no_drain (Aborted status) tells = refl
+no_drain Plain tells = refl
+no_drain Loaded tells = refl
+no_drain (Stopped stop) tells = refl
+no_drain Idle tells = refl
+no_drain Begun tells = refl
+no_drain Inside tells = refl
+no_drain Committed tells = refl
+
+waits_some : (setting : Setting) (memory : List ℕ) (pending : Pending) (core : Core) (outcome : Outcome) →
+    must_wait setting memory pending core outcome ≡ true → 0 < length pending
+waits_some setting memory [] core outcome waits = cc
+waits_some setting memory (oldest ∷ younger) core outcome waits = omega arith
+
+waits_or : (pending : Pending) (outcome : Outcome) (waits : Bool) → (waits ≡ true → 0 < length pending) →
+    event_told outcome ≡ None →
+    Befalls (if waits then Drained else outcome) pending (if waits then Drained else outcome)
+waits_or pending outcome true some tells = inr (inl (refl, some refl))
+waits_or pending outcome false some tells =
+    inr (inr (refl, (aborted_by_none outcome tells, no_drain outcome tells)))
+
+alone : (setting : Setting) (memory : List ℕ) (pending : Pending) (core : Core) (doom : Option ℕ) →
+    Befalls (owed_with_pending setting memory pending core doom) pending
+    (owed_with_pending setting memory pending core doom)
+alone setting memory pending core doom =
     let seen : List ℕ = seen_memory memory pending in
     let outcome : Outcome = owed_outcome setting seen core doom in
-    waits_alone (must_wait setting seen pending core outcome) outcome
-    (aborted_by_none outcome (no_event_told setting seen core doom))
+    waits_or pending outcome (must_wait setting seen pending core outcome)
+    (waits_some setting seen pending core outcome) (no_event_told setting seen core doom)
 
-asked_alone : (event : Option Event) (setting : Setting) (memory : List ℕ) (pending : Pending) (core : Core)
-    (doom : Option ℕ) → is_aborted_by (owed_under (asked_under event) setting memory pending core doom) ≡ false
-asked_alone None setting memory pending core doom = pending_alone setting memory pending core doom
-asked_alone (Some (event.Abort by)) setting memory pending core doom = pending_alone setting memory pending core doom
-asked_alone (Some event.Drain) setting memory [] core doom = pending_alone setting memory [] core doom
-asked_alone (Some event.Drain) setting memory (oldest ∷ younger) core doom = refl
+befalls : (event : Option Event) (setting : Setting) (memory : List ℕ) (pending : Pending) (core : Core)
+    (doom : Option ℕ) → Befalls (owed_under event setting memory pending core doom) pending
+    (owed_under None setting memory pending core doom)
+befalls None setting memory pending core doom = alone setting memory pending core doom
+befalls (Some event.Drain) setting memory [] core doom = alone setting memory [] core doom
+befalls (Some event.Drain) setting memory (oldest ∷ younger) core doom = inr (inl (refl, omega arith))
+befalls (Some (event.Abort by)) setting memory pending (Opened regs steps) None = inl (by, (_, refl))
+befalls (Some (event.Abort by)) setting memory pending (Opened regs steps) (Some depth) =
+    alone setting memory pending (Opened regs steps) (Some depth)
+befalls (Some (event.Abort by)) setting memory pending (Halted regs stop) doom =
+    alone setting memory pending (Halted regs stop) doom
+befalls (Some (event.Abort by)) setting memory pending (Closed regs) doom =
+    alone setting memory pending (Closed regs) doom
+befalls (Some (event.Abort by)) setting memory pending (Midway regs value) doom =
+    alone setting memory pending (Midway regs value) doom
+
+-- with a store pending, a drain is what is owed under one
+drain_owed : (setting : Setting) (memory : List ℕ) (pending : Pending) (core : Core) (doom : Option ℕ) →
+    0 < length pending → owed_under (Some event.Drain) setting memory pending core doom ≡ Drained
+drain_owed setting memory [] core doom some = absurd (omega (arith, some))
+drain_owed setting memory (oldest ∷ younger) core doom some = refl
 
 -- ---- each step
 
@@ -167,36 +205,56 @@ module _ (event : Option Event) (setting : Setting) (state : State) (doomed : Do
 
   abbrev hit_other : ℕ → Option StandingHit
   hit_other core =
-      option_or (hit_in core earlier) (standing (suc (length earlier)) asked (hit_made (asked, outcome) core))
+      option_or (hit_in core earlier)
+      (standing (suc (length earlier)) (asked, outcome) (hit_made (asked, outcome) core))
 
   abbrev IsToldBy : ℕ → Outcome → Type 0
   IsToldBy core made =
       IsTold (doomed core) (doomed_after setting state doomed asked.core made core) (hit_made (asked, made) core)
 
-  -- the core's own step hits as it was asked, and an abort from outside hits nobody
-  is_told : (core : ℕ) → eqb core asked.core ≡ false →
-      IsHitTold (asked_under event) setting state doomed asked.core core (hit_on asked core) → IsToldBy core outcome
+  -- of a drain, what was asked of it
+  by_drain : (core : ℕ) (made : Outcome) → made ≡ Drained →
+      IsTold (doomed core) (doomed_after setting state doomed asked.core made core) (drain_hit_on asked core) →
+      IsToldBy core made
+  by_drain core made is told =
+      subst (IsTold (doomed core) (doomed_after setting state doomed asked.core made core))
+      (sym (ap (λ o. hit_made (asked, o) core) is)) told
+
+  -- a drain hits as it was asked, and so does the core's own step; an abort from outside hits nobody
+  is_told : (core : ℕ) → eqb core asked.core ≡ false → AreHitsTold setting state doomed asked core →
+      IsToldBy core outcome
   is_told core apart told =
       let stepping : Core = state.cores asked.core in
       let pending : Pending = state.pending asked.core in
-      elim (befalls event setting state.memory pending stepping (doomed asked.core)) [
-        | inl same ↦
-            let made : Outcome = owed_now (asked_under event) setting state doomed asked.core in
-            let all : hit_on asked core ≡ hit_made (asked, made) core =
-            sym
-            (ap (λ aborted. if aborted then None else hit_on asked core)
-            (asked_alone event setting state.memory pending stepping (doomed asked.core))) in
-            subst (IsToldBy core) (sym same)
-            (subst (IsTold (doomed core) (doomed_after setting state doomed asked.core made core)) all
-            (condemn (asked_under event) setting state doomed asked.core core (hit_on asked core) apart told))
-        | inr aborted ↦
+      let doom : Option ℕ = doomed asked.core in
+      elim (befalls event setting state.memory pending stepping doom) [
+        | inl aborted ↦
             subst (IsToldBy core) (sym aborted.1.1)
             (abort_hits_nobody setting state doomed asked.core aborted.0 aborted.1.0 core apart)
+        | inr made ↦ elim made [
+          | inl drained ↦
+              subst (IsToldBy core)
+              (drain_owed setting state.memory pending stepping doom drained.1 ∙ sym drained.0)
+              (by_drain core (owed_now (Some Drain) setting state doomed asked.core)
+              (drain_owed setting state.memory pending stepping doom drained.1)
+              (condemn (Some Drain) setting state doomed asked.core core (drain_hit_on asked core) apart
+              (told.drain drained.1)))
+          | inr step ↦
+              let owed : Outcome = owed_now None setting state doomed asked.core in
+              let same : hit_on asked core ≡ hit_made (asked, outcome) core =
+              sym
+              (ap (λ aborted. if aborted then None
+              else if is_drain outcome then drain_hit_on asked core else hit_on asked core) step.1.0
+              ∙ ap (λ drains. if drains then drain_hit_on asked core else hit_on asked core) step.1.1) in
+              subst (IsTold (doomed core) (doomed_after setting state doomed asked.core outcome core)) same
+              (subst (λ (o : Outcome). IsTold (doomed core) (doomed_after setting state doomed asked.core o core)
+              (hit_on asked core)) (sym step.0)
+              (condemn None setting state doomed asked.core core (hit_on asked core) apart told.step))
+        ]
       ]
 
   by_core : (core : ℕ) (same : Bool) → eqb core asked.core ≡ same →
-      ((other : ℕ) → (other ≡ asked.core → ⊥) →
-      IsHitTold (asked_under event) setting state doomed asked.core other (hit_on asked other)) →
+      ((other : ℕ) → (other ≡ asked.core → ⊥) → AreHitsTold setting state doomed asked other) →
       AreStanding doomed earlier →
       is_some (if same then doom_own else doom_other core) ≡ is_some (if same then hit_own core else hit_other core)
   by_core core true e told stands =
@@ -207,8 +265,8 @@ module _ (event : Option Event) (setting : Setting) (state : State) (doomed : Do
       let differs : core ≡ asked.core → ⊥ = λ same. true≢false (sym (eq-eqb core asked.core same) ∙ e) in
       let P : Bool → Type 0 =
       λ b. IsTold (doomed core) (if b then doom_own else doom_other core) (hit_made (asked, outcome) core) in
-      told_other (suc (length earlier)) asked (hit_made (asked, outcome) core) (doomed core) (doom_other core)
-      (hit_in core earlier) (subst P e (is_told core e (told core differs))) (stands core)
+      told_other (suc (length earlier)) (asked, outcome) (hit_made (asked, outcome) core) (doomed core)
+      (doom_other core) (hit_in core earlier) (subst P e (is_told core e (told core differs))) (stands core)
 
 pub hits_stand : HitsStand
 hits_stand event setting state doomed asked earlier told stands core =

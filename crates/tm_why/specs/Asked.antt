@@ -3,9 +3,9 @@ use Rattle.std.specs.Prelude.{◌≡◌, ℕ, ◌<◌, ◌≤◌, Option, None, 
 use Rattle.tm_model.specs.Explained.{abort_reason}
 use Rattle.tm_model.specs.State.{State, seen_by}
 use Rattle.tm_core.specs.Theorem.{ShownMachine, StandsFor, machine_setting, view_at}
-use Rattle.tm_why.specs.Said.{IsReachSaid, IsSaidOf}
+use Rattle.tm_why.specs.Said.{IsReachSaid, IsSaidOf, IsSaidOfDrain}
 use Rattle.tm_why.specs.Types.{Asked}
-use Rattle.tm_why.specs.Watched.{hit_on}
+use Rattle.tm_why.specs.Watched.{drain_hit_on, hit_on}
 
 pub record IsAsked (machine : ShownMachine) (number : ℕ) (asked : Asked) : Type 0 where
   pub core : asked.core ≡ number
@@ -14,6 +14,10 @@ pub record IsAsked (machine : ShownMachine) (number : ℕ) (asked : Asked) : Typ
       IsSaidOf machine number other (hit_on asked other)
   pub own : hit_on asked number ≡ None
   pub absent : (other : ℕ) → length machine.views ≤ other → hit_on asked other ≡ None
+  pub drain_hits : (other : ℕ) → other < length machine.views → (other ≡ number → ⊥) →
+      IsSaidOfDrain machine number other (drain_hit_on asked other)
+  pub drain_own : drain_hit_on asked number ≡ None
+  pub drain_absent : (other : ℕ) → length machine.views ≤ other → drain_hit_on asked other ≡ None
   pub reason : (state : State) (doomed : ℕ → Option ℕ) → StandsFor machine state doomed →
       asked.reason ≡ abort_reason (machine_setting machine) (seen_by state number) (state.cores number) (doomed number)
   pub reach : IsReachSaid machine number asked.reach

@@ -1,5 +1,5 @@
 -- The line that tells why a core's next step is an abort (docs/FORMATS.md, "Debugger"; docs/GDB.md).
-use Rattle.std.specs.Prelude.{ℕ, List, [], ◌++◌, codes, Option, Some, None}
+use Rattle.std.specs.Prelude.{ℕ, if◌then◌else◌, List, [], ◌++◌, codes, Option, Some, None}
 use Rattle.std.specs.Fmt.{decimal}
 use Rattle.text_out.specs.Number.{eight_digits, hex_digits}
 use Rattle.text_out.specs.TextLine.{line_end}
@@ -25,12 +25,20 @@ abbrev pub use_word : Kind → List ℕ
 use_word Read = codes ": read at step "
 use_word Write = codes ": written at step "
 
+-- a store that had been pending reached memory, or else the step itself used the line
+abbrev pub hit_word : StandingHit → List ℕ
+hit_word hit = if hit.is_drain then codes ": drained at step " else use_word hit.hit.kind
+
+-- the address of the instruction that hit; which one made a store that drains later is not known
+abbrev pub place_words : StandingHit → List ℕ
+place_words hit = if hit.is_drain then [] else codes " at " ++ eight_digits hit.eip
+
 -- the line that was hit, and the step that did it: its number, its core, and the address of its instruction
 abbrev pub hit_words : Option StandingHit → List ℕ
 hit_words None = []
 hit_words (Some hit) =
-    codes " line " ++ hex_digits hit.hit.line ++ use_word hit.hit.kind ++ decimal hit.step ++ codes " by core "
-    ++ decimal hit.core ++ codes " at " ++ eight_digits hit.eip
+    codes " line " ++ hex_digits hit.hit.line ++ hit_word hit ++ decimal hit.step ++ codes " by core "
+    ++ decimal hit.core ++ place_words hit
 
 -- the step that began the transaction
 abbrev pub begun_words : Option ℕ → List ℕ

@@ -3,7 +3,7 @@ use Rattle.std.specs.Prelude.{ℕ, ◌==◌, if◌then◌else◌, Option}
 use Rattle.std.specs.Option.{option_or}
 use Rattle.tm_model.specs.declared.outcome.Outcome.{Outcome}
 use Rattle.tm_why.specs.Types.{Asked, Hit, Watched}
-use Rattle.tm_why.specs.Watched.{begun_by, hit_made, left_by, standing}
+use Rattle.tm_why.specs.Watched.{Told, begun_by, hit_made, left_by, standing}
 
 abbrev pub row_after_own : Watched → Outcome → ℕ → Watched
 row_after_own row outcome number = record {
@@ -11,19 +11,19 @@ row_after_own row outcome number = record {
   hit = left_by outcome row.hit;
 }
 
-abbrev pub row_after_other : Watched → Option Hit → Asked → ℕ → Watched
-row_after_other row hit asked number = record {
+abbrev pub row_after_other : Watched → Told → Option Hit → ℕ → Watched
+row_after_other row step hit number = record {
   begun = row.begun;
-  hit = option_or row.hit (standing number asked hit);
+  hit = option_or row.hit (standing number step hit);
 }
 
 abbrev pub row_after : ℕ → Asked → Outcome → ℕ → Watched → Watched
 row_after core asked outcome number row =
     if core == asked.core
     then row_after_own row outcome number
-    else row_after_other row (hit_made (asked, outcome) core) asked number
+    else row_after_other row (asked, outcome) (hit_made (asked, outcome) core) number
 
 -- but for the core's own row
 abbrev pub row_if_other : ℕ → Asked → Outcome → ℕ → Watched → Watched
 row_if_other core asked outcome number row =
-    if core == asked.core then row else row_after_other row (hit_made (asked, outcome) core) asked number
+    if core == asked.core then row else row_after_other row (asked, outcome) (hit_made (asked, outcome) core) number

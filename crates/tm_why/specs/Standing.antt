@@ -1,5 +1,5 @@
 -- A hit stands on a core exactly while the core is doomed.
-use Rattle.std.specs.Prelude.{◌≡◌, ℕ, List, ◌∷◌, Option, Some, None}
+use Rattle.std.specs.Prelude.{◌≡◌, ℕ, ◌<◌, List, ◌∷◌, Option, Some, None, length}
 use Rattle.std.specs.Option.{is_some}
 use Rattle.tm_model.specs.Conflicts.{Doomed, doomed_after}
 use Rattle.tm_model.specs.Explained.{IsHitTold, owed_now}
@@ -9,25 +9,24 @@ use Rattle.tm_model.specs.Setting.{Setting}
 use Rattle.tm_model.specs.State.{State}
 use Rattle.tm_model.specs.declared.outcome.Outcome.{Outcome}
 use Rattle.tm_why.specs.Types.{Asked}
-use Rattle.tm_why.specs.Watched.{Told, hit_in, hit_on}
+use Rattle.tm_why.specs.Watched.{Told, drain_hit_on, hit_in, hit_on}
 
 abbrev pub AreStanding : Doomed → List Told → Type 0
 AreStanding doomed steps = (core : ℕ) → is_some (doomed core) ≡ is_some (hit_in core steps)
 
--- What the hits before a step were told of: an abort from outside of the program is asked as the step in whose place it
--- comes, and a drain as itself.
-abbrev pub asked_under : Option Event → Option Event
-asked_under None = None
-asked_under (Some (event.Abort by)) = None
-asked_under (Some event.Drain) = Some event.Drain
+-- before a step of the core that was asked of, its hits on another core were told: those of the step that it makes by
+-- itself, and where a store of it is pending those of a drain
+pub record AreHitsTold (setting : Setting) (state : State) (doomed : Doomed) (asked : Asked) (other : ℕ) : Type 0 where
+  pub step : IsHitTold None setting state doomed asked.core other (hit_on asked other)
+  pub drain : 0 < length (state.pending asked.core) →
+      IsHitTold (Some event.Drain) setting state doomed asked.core other (drain_hit_on asked other)
 
 -- where it is so, it is so behind each step, under an event or under none, that is owed and of which the hits were
 -- told: so from a run's begin on, where no core is doomed and no step was told
 abbrev pub HitsStand : Type 0
 HitsStand =
     (event : Option Event) (setting : Setting) (state : State) (doomed : Doomed) (asked : Asked) (earlier : List Told) →
-    ((other : ℕ) → (other ≡ asked.core → ⊥) →
-    IsHitTold (asked_under event) setting state doomed asked.core other (hit_on asked other)) →
+    ((other : ℕ) → (other ≡ asked.core → ⊥) → AreHitsTold setting state doomed asked other) →
     AreStanding doomed earlier →
     let outcome : Outcome = owed_now event setting state doomed asked.core in
     AreStanding (doomed_after setting state doomed asked.core outcome) ((asked, outcome) ∷ earlier)

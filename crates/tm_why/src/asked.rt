@@ -1,14 +1,15 @@
 //! What a machine says of a core's step before it is made: whom it hits, on which line, why it is an abort, if it is
 //! one, and which bytes it reaches.
 //!
-//! The step is planned once, and the cores are gone through only where it may hit one. [`Asked::of`] makes a row of
-//! hits and [`Asked::anew`] fills one that is there, for who asks before every step. That an event comes in place
-//! of the step is not known yet: `row` leaves its hits out by the outcome.
+//! The step is planned once, and the cores are gone through only where it may hit one, and again for a drain where a
+//! store of its core is pending. [`Asked::of`] makes a row of hits of each and [`Asked::anew`] fills those that are
+//! there, for who asks before every step. That an event comes in place of the step is not known yet: `row` takes those
+//! of the step, those of the drain, or none, by the outcome.
 
 ghost use Rattle.std.specs.Prelude.{◌≡◌, ℕ, ◌↔◌, ◌<◌, ◌≤◌, IfOk, IsOk, None, OnErr, OnOk, length, slice_index_or};
 ghost use Rattle.tm_core.specs.Previewed.{IsPreview};
 ghost use Rattle.tm_core.specs.Theorem.{view_at};
-ghost use Rattle.tm_why.specs.Hits.{AreHits, HasNoHits};
+ghost use Rattle.tm_why.specs.Hits.{AreDrainHits, AreHits, HasNoHits};
 
 use tm_core::{Machine, NoSuchCore, Preview};
 use tm_model::{AbortReason, Hit, Reach};
@@ -33,6 +34,11 @@ pub struct Asked {
     pub hits: [Option<Hit>; MOST_CORES],
     /// Each core that the step hits has a number below this, at most 64.
     pub below: u8,
+    /// For each core, the hit by which the oldest pending store of this one condemns the core's open transaction, if it
+    /// reaches memory in the step's place.
+    pub drain_hits: [Option<Hit>; MOST_CORES],
+    /// Each core that the drain hits has a number below this, at most 64.
+    pub drain_below: u8,
     /// Why the step is an abort, where it is one.
     pub reason: Option<AbortReason>,
     /// Which bytes the step loads and stores.
@@ -40,6 +46,8 @@ pub struct Asked {
     pub ghost few: { core < 64 },
     pub ghost most: { below ≤ 64 },
     pub ghost none: { (k : ℕ) → below ≤ k → slice_index_or hits k None ≡ None },
+    pub ghost drain_most: { drain_below ≤ 64 },
+    pub ghost drain_none: { (k : ℕ) → drain_below ≤ k → slice_index_or drain_hits k None ≡ None },
 }
 
 impl Asked {
@@ -53,6 +61,8 @@ impl Asked {
             eip: 0,
             hits: [None; MOST_CORES],
             below: 0,
+            drain_hits: [None; MOST_CORES],
+            drain_below: 0,
             reason: None,
             reach: NOTHING,
         }
@@ -69,11 +79,15 @@ impl Asked {
         let preview = machine.preview(core)?;
         let mut hits = [None; MOST_CORES];
         let below = hits_of(machine, &preview, &mut hits);
+        let mut drain_hits = [None; MOST_CORES];
+        let drain_below = drain_hits_of(machine, core, &mut drain_hits);
         Ok(Asked {
             core,
             eip: preview.eip,
             hits,
             below,
+            drain_hits,
+            drain_below,
             reason: preview.reason,
             reach: preview.reach,
         })
@@ -98,6 +112,8 @@ impl Asked {
         // Before `below` changes, which says how far the row is filled.
         clear(&mut self.hits, self.below);
         self.below = hits_of(machine, &preview, &mut self.hits);
+        clear(&mut self.drain_hits, self.drain_below);
+        self.drain_below = drain_hits_of(machine, core, &mut self.drain_hits);
         self.core = core;
         self.eip = preview.eip;
         self.reason = preview.reason;
@@ -145,4 +161,34 @@ fn put_hits(machine: &Machine, preview: &Preview, hits: &mut [Option<Hit>; MOST_
         }
     }
     below
+}
+
+// The same of a drain of this core: where no store of it is pending, there is none to ask of.
+fn drain_hits_of(machine: &Machine, core: u8, hits: &mut [Option<Hit>; MOST_CORES]) -> u8
+    requires exists { core < length machine.now.views }
+    requires empty { HasNoHits hits.old }
+    ensures { AreDrainHits machine.now core hits.new result }
+{
+    if machine.pending(core).unwrap().is_empty() {
+        0
+    } else {
+        put_drain_hits(machine, core, hits)
+    }
+}
+
+// As [`drain_hits_of`], where a store is pending: each core is asked for.
+fn put_drain_hits(machine: &Machine, core: u8, hits: &mut [Option<Hit>; MOST_CORES]) -> u8
+    requires exists { core < length machine.now.views }
+    requires empty { HasNoHits hits.old }
+    ensures { AreDrainHits machine.now core hits.new result }
+{
+    let mut end = 0;
+    for victim in 0..machine.cores() {
+        let hit = machine.hit_by_drain(core, victim).unwrap();
+        hits[victim as usize] = hit;
+        if hit.is_some() {
+            end = victim + 1;
+        }
+    }
+    end
 }

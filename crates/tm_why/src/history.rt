@@ -48,14 +48,16 @@ fn follow(board: &Board, opened: Board) -> Watch
 {
     let mut first = opened;
     let mut watch = Watch::new();
+    // Filled anew before each step: its rows are long.
+    let mut asked = Asked::nothing();
     'steps: for made in 0..board.made() {
-        watch_step(board, made, &mut first, &mut watch);
+        watch_step(board, made, &mut first, &mut asked, &mut watch);
     }
     watch
 }
 
 // Makes the next step of a board's history, and tells a watch of it.
-fn watch_step(board: &Board, made: u64, first: &mut Board, watch: &mut Watch)
+fn watch_step(board: &Board, made: u64, first: &mut Board, asked: &mut Asked, watch: &mut Watch)
     requires within { made < length board.now.history }
     requires so_far { IsFirst board.now made first.old }
     requires told { IsWatchOf board.now made watch.old }
@@ -69,9 +71,9 @@ fn watch_step(board: &Board, made: u64, first: &mut Board, watch: &mut Watch)
     let Some((core, outcome)) = board.step_at(made as usize) else {
         unreachable!()
     };
-    let Ok(asked) = Asked::of(first.machine(), core) else {
+    let Ok(()) = asked.anew(first.machine(), core) else {
         unreachable!()
     };
     first.step_again(board, made);
-    watch.note(&asked, outcome);
+    watch.note(asked, outcome);
 }

@@ -7,7 +7,7 @@
 ghost use Rattle.std.specs.Prelude.{◌≡◌, ◌+◌, ◌≤◌, ◌++◌, length};
 ghost use Rattle.arrayvec.specs.ArrayVec.{array_vec_len};
 ghost use Rattle.text_out.specs.Writing.{Writes};
-ghost use Rattle.tm_why.specs.Lines.{begun_words, cause_word, hit_words, reason_line, use_word};
+ghost use Rattle.tm_why.specs.Lines.{begun_words, cause_word, hit_word, hit_words, place_words, reason_line, use_word};
 
 use crate::reason::Reason;
 use crate::row::StandingHit;
@@ -67,6 +67,30 @@ pub fn use_word(kind: Kind) -> &'static [u8]
     }
 }
 
+/// How a line was hit, as it is told before the number of the step that hit it.
+pub fn hit_word(hit: &StandingHit) -> &'static [u8]
+    ensures text { result.now ≡ hit_word hit.now }
+    ensures short { length result.now ≤ 18 }
+{
+    if hit.is_drain {
+        b": drained at step "
+    } else {
+        use_word(hit.hit.kind)
+    }
+}
+
+// Where the instruction stands that hit, where that is known.
+fn push_place(row: &mut Page, hit: &StandingHit)
+    requires { array_vec_len row.old + 20 ≤ 4096 }
+    ensures text { row.new.items ≡ row.old.items ++ place_words hit.now }
+    ensures len { array_vec_len row.new ≤ array_vec_len row.old + 20 }
+{
+    if !hit.is_drain {
+        push(row, b" at ");
+        push_eight(row, hit.eip);
+    }
+}
+
 // The line that was hit, and by which step.
 fn push_hit(row: &mut Page, hit: Option<StandingHit>)
     requires { array_vec_len row.old + 200 ≤ 4096 }
@@ -76,12 +100,11 @@ fn push_hit(row: &mut Page, hit: Option<StandingHit>)
     if let Some(hit) = hit {
         push(row, b" line ");
         push_hex(row, hit.hit.line);
-        push(row, use_word(hit.hit.kind));
+        push(row, hit_word(&hit));
         push_decimal(row, hit.step);
         push(row, b" by core ");
         push_decimal(row, u64::from(hit.core));
-        push(row, b" at ");
-        push_eight(row, hit.eip);
+        push_place(row, &hit);
     }
 }
 

@@ -2,11 +2,11 @@
 //!
 //! [`row_after`] says it for each core, [`take_own`] for the one that steps, in place. A hit that stands is not
 //! replaced by a later one, and only the core's own step takes it away. A step in whose place an abort from outside
-//! came has hit nobody.
+//! came has hit nobody, and one in whose place a store reached memory those that this hits.
 
 ghost use Rattle.std.specs.Prelude.{◌≡◌, ◌<◌};
 ghost use Rattle.tm_why.specs.Rows.{row_after, row_after_other, row_after_own};
-ghost use Rattle.tm_why.specs.Watched.{hit_made};
+ghost use Rattle.tm_why.specs.Watched.{hit_made, is_drain};
 
 use crate::asked::Asked;
 use tm_model::{Hit, Outcome};
@@ -18,8 +18,10 @@ pub struct StandingHit {
     pub step: u64,
     /// The core that made it.
     pub core: u8,
-    /// The address of the instruction by which it hit.
+    /// The address of the instruction by which it hit; of a drain, of the one that was next on its core.
     pub eip: u32,
+    /// Whether the step was a drain: a store that had been pending reached memory.
+    pub is_drain: bool,
     /// The line, and how the step used it.
     pub hit: Hit,
 }
@@ -66,13 +68,22 @@ pub fn take_own(row: &mut Watched, outcome: Outcome, number: u64)
     }
 }
 
-// The hit of a step on another core. A step in whose place an abort from outside came was not made, and hits nobody.
-fn hit_made(asked: &Asked, outcome: Outcome, core: usize) -> Option<Hit>
+// Whether a store that had been pending reached memory in the place of the step.
+fn is_drain(outcome: Outcome) -> bool
+    ensures { result ≡ is_drain outcome }
+{
+    matches!(outcome, Outcome::Drained)
+}
+
+/// The hit of a step on another core: of a drain, that of the store. A step in whose place an abort from outside came
+/// was not made, and hits nobody.
+pub fn hit_made(asked: &Asked, outcome: Outcome, core: usize) -> Option<Hit>
     requires { core < 64 }
     ensures { result ≡ hit_made (asked.now, outcome) core }
 {
     match outcome {
         Outcome::AbortedBy(_, _) => None,
+        Outcome::Drained => asked.drain_hits[core],
         Outcome::Plain
         | Outcome::Loaded
         | Outcome::Stopped(_)
@@ -80,14 +91,19 @@ fn hit_made(asked: &Asked, outcome: Outcome, core: usize) -> Option<Hit>
         | Outcome::Begun
         | Outcome::Inside
         | Outcome::Committed
-        | Outcome::Aborted(_)
-        | Outcome::Drained => asked.hits[core],
+        | Outcome::Aborted(_) => asked.hits[core],
     }
 }
 
 // A core behind another core's step, of which the first hit stands.
-fn after_other(row: Watched, hit: Option<Hit>, asked: &Asked, number: u64) -> Watched
-    ensures { result ≡ row_after_other row hit asked.now number }
+fn after_other(
+    row: Watched,
+    hit: Option<Hit>,
+    asked: &Asked,
+    outcome: Outcome,
+    number: u64,
+) -> Watched
+    ensures { result ≡ row_after_other row (asked.now, outcome) hit number }
 {
     match (row.hit, hit) {
         (None, Some(hit)) => Watched {
@@ -96,6 +112,7 @@ fn after_other(row: Watched, hit: Option<Hit>, asked: &Asked, number: u64) -> Wa
                 step: number,
                 core: asked.core,
                 eip: asked.eip,
+                is_drain: is_drain(outcome),
                 hit,
             }),
         },
@@ -111,6 +128,7 @@ pub fn row_after(row: Watched, core: usize, asked: &Asked, outcome: Outcome, num
     if core == asked.core as usize {
         after_own(row, outcome, number)
     } else {
-        after_other(row, hit_made(asked, outcome, core), asked, number)
+        let hit = hit_made(asked, outcome, core);
+        after_other(row, hit, asked, outcome, number)
     }
 }

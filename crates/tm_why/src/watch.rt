@@ -3,13 +3,13 @@
 //! [`Watch::reason`] and [`Watch::begun`] are asked before [`Watch::note`], which may end the transaction that they
 //! speak of. No machine is asked and no step made here: `asked` and the caller do that.
 
-ghost use Rattle.std.specs.Prelude.{◌≡◌, ℕ, ◌<◌, ◌^◌, ◌-◌, ◌∷◌, [], List, length, slice_index_or};
-ghost use Rattle.tm_why.specs.Watched.{outside};
+ghost use Rattle.std.specs.Prelude.{◌≡◌, ℕ, ◌<◌, ◌≤◌, ◌^◌, ◌-◌, ◌∷◌, [], List, None, length, slice_index_or};
+ghost use Rattle.tm_why.specs.Watched.{hit_made, outside};
 ghost use Rattle.tm_why.specs.Rows.{row_after, row_if_other};
 
 use crate::asked::{Asked, MOST_CORES};
 use crate::reason::Reason;
-use crate::row::{Watched, row_after, take_own};
+use crate::row::{Watched, hit_made, row_after, take_own};
 use tm_model::Outcome;
 
 /// Of each core the step at which its open transaction began, and the hit that condemned it: a row of fixed length. It
@@ -80,14 +80,33 @@ fn take_in(rows: &mut [Watched; MOST_CORES], asked: &Asked, outcome: Outcome, nu
     take_own(&mut rows[own], outcome, number);
 }
 
+// Below which number each core is that the step hit, or the drain in its place.
+fn hits_below(asked: &Asked, outcome: Outcome) -> u8
+    ensures most { result ≤ 64 }
+    ensures none { (core : ℕ) → result ≤ core → hit_made (asked.now, outcome) core ≡ None }
+{
+    match outcome {
+        Outcome::Drained => asked.drain_below,
+        Outcome::Plain
+        | Outcome::Loaded
+        | Outcome::Stopped(_)
+        | Outcome::Idle
+        | Outcome::Begun
+        | Outcome::Inside
+        | Outcome::Committed
+        | Outcome::Aborted(_)
+        | Outcome::AbortedBy(_, _) => asked.below,
+    }
+}
+
 // The rows of the cores that are hit.
 fn take_hits(rows: &mut [Watched; MOST_CORES], asked: &Asked, outcome: Outcome, number: u64)
     ensures { (core : ℕ) → core < 64 → slice_index_or rows.new core outside
         ≡ row_if_other core asked.now outcome number (slice_index_or rows.old core outside) }
 {
     let own = asked.core as usize;
-    for core in 0..asked.below as usize {
-        if core != own && asked.hits[core].is_some() {
+    for core in 0..hits_below(asked, outcome) as usize {
+        if core != own && hit_made(asked, outcome, core).is_some() {
             rows[core] = row_after(rows[core], core, asked, outcome, number);
         }
     }

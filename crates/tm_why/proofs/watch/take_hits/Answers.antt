@@ -37,7 +37,8 @@ loop-core-preserved c =
                   | else-core-own-via-then-core-own+else-is_some v ↦
                       other_none c.args.asked.now c.args.outcome c.args.number c.loop-core.core
                       (get_or c.args.rows.now c.loop-core.core outside)
-                      (not_some _ (sym v.is_some.ensures ∙ v.if-is_some.false))
+                      (sym v.hit_made.ensures
+                      ∙ not_some _ (sym v.is_some.ensures ∙ v.if-is_some.false))
                   | else-core-own-via-else-core-own v ↦
                       other_own c.args.asked.now c.args.outcome c.args.number c.loop-core.core
                       (get_or c.args.rows.now c.loop-core.core outside) v.if-core-own.false

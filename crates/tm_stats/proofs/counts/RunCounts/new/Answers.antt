@@ -11,6 +11,7 @@ returns c = record {
   steps_told = refl;
   outside = refl;
   idle = refl;
+  drained = refl;
   under_way = λ core small. get_or-replicate 256 core 0 0 small;
   places = λ q. ap (λ es. unwrap_or (lookup (nat_eq q) es) zero_counts) c.new.ensures.empty;
   causes = λ q. ap (λ es. unwrap_or (lookup (same_cause ((causes.ghosts).eq) q) es) 0) c.new-2.ensures.empty;

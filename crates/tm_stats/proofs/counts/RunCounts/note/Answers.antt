@@ -9,6 +9,8 @@ returns-clause-ok c = λ steps few was. told_counts steps few was c.make_room.en
   outside =
       λ small. c.count_if-self.ensures small ∙ ap (λ b. counted b c.make_room.new.self.outside) c.is_outside.ensures;
   idle = λ small. c.count_if-self-2.ensures small ∙ ap (λ b. counted b c.make_room.new.self.idle) c.is_idle.ensures;
+  drained =
+      λ small. c.count_if-self-3.ensures small ∙ ap (λ b. counted b c.make_room.new.self.drained) c.is_drained.ensures;
   longer = c.plus.ensures;
   reads_told = search rules;
   writes_told = search rules;
