@@ -27,12 +27,13 @@ name_of word =
     else if pointwise nat_eq word (codes "mem") then Some name.Mem
     else if pointwise nat_eq word (codes "sets") then Some name.Sets
     else if pointwise nat_eq word (codes "why") then Some name.Why
+    else if pointwise nat_eq word (codes "pending") then Some name.Pending
     else if pointwise nat_eq word (codes "list") then Some name.List
     else if pointwise nat_eq word (codes "help") then Some name.Help
     else if pointwise nat_eq word (codes "quit") then Some name.Quit
     else None
 
--- the words behind the name must be none, a number, a step, an address, or an address and a number
+-- the words behind the name must be none, a number, a number or none, a step, an address, or an address and a number
 abbrev pub command_alone : CommandName → List ℕ → DebugCommand → Result DebugCommand CommandRefusal
 command_alone name first command = if length first == 0 then Ok command else Err (BadArgument name)
 
@@ -43,6 +44,14 @@ number_result name (Some number) = Ok number
 abbrev pub one_number : CommandName → List ℕ → List ℕ → Result ℕ CommandRefusal
 one_number name first second = if length second == 0 then number_result name (number_in first)
     else Err (BadArgument name)
+
+-- one number, or none
+abbrev pub as_given : Result ℕ CommandRefusal → Result (Option ℕ) CommandRefusal
+as_given (Ok number) = Ok (Some number)
+as_given (Err refusal) = Err refusal
+
+abbrev pub at_most_one : CommandName → List ℕ → List ℕ → Result (Option ℕ) CommandRefusal
+at_most_one name first second = if length first == 0 then Ok None else as_given (one_number name first second)
 
 -- a step: a number, which is a core under no event, or the word of a step in a schedule (docs/FORMATS.md, "Schedules")
 abbrev pub step_result : Option ℕ → Option Pick → Result (ℕ × Option Event) CommandRefusal
@@ -103,6 +112,8 @@ command_named name.Sets symbols first second third =
     command_with (λ number. command.Sets number) (one_number name.Sets first second)
 command_named name.Why symbols first second third =
     command_with (λ number. command.Why number) (one_number name.Why first second)
+command_named name.Pending symbols first second third =
+    command_with (λ (core : Option ℕ). command.Pending core) (at_most_one name.Pending first second)
 command_named name.List symbols first second third =
     command_with (λ (pair : ℕ × ℕ). command.List pair.0 pair.1)
     (address_and_number name.List symbols first second third)

@@ -4,9 +4,9 @@
 ghost use Rattle.std.specs.Prelude.{◌≡◌};
 ghost use Rattle.debug_command.specs.Numbers.{number_in};
 ghost use Rattle.debug_command.specs.Addresses.{address_in};
-ghost use Rattle.debug_command.specs.Commands.{address_and_number, address_result, command_alone, command_named};
-ghost use Rattle.debug_command.specs.Commands.{command_of, name_of, number_result, one_address, one_number, one_step};
-ghost use Rattle.debug_command.specs.Commands.{step_result};
+ghost use Rattle.debug_command.specs.Commands.{address_and_number, address_result, at_most_one, command_alone};
+ghost use Rattle.debug_command.specs.Commands.{command_named, command_of, name_of, number_result, one_address};
+ghost use Rattle.debug_command.specs.Commands.{one_number, one_step, step_result};
 ghost use Rattle.tm_schedule.specs.Picks.{pick_of_word};
 
 use crate::address::read_address;
@@ -30,6 +30,7 @@ pub enum CommandName {
     Mem,
     Sets,
     Why,
+    Pending,
     List,
     Help,
     Quit,
@@ -58,6 +59,8 @@ pub enum DebugCommand {
     Sets(u64),
     /// Why the next step of this core is an abort.
     Why(u64),
+    /// The stores of this core that are pending, or of each core.
+    Pending(Option<u64>),
     /// A listing: the address of its first line, and how many lines.
     List(u64, u64),
     /// The commands.
@@ -90,6 +93,8 @@ fn name_of(word: &[u8]) -> Option<CommandName>
         Some(CommandName::Sets)
     } else if word == b"why".as_slice() {
         Some(CommandName::Why)
+    } else if word == b"pending".as_slice() {
+        Some(CommandName::Pending)
     } else if word == b"list".as_slice() {
         Some(CommandName::List)
     } else if word == b"help".as_slice() {
@@ -127,6 +132,21 @@ fn one(name: CommandName, first: &[u8], second: &[u8]) -> Result<u64, CommandRef
         return Err(CommandRefusal::BadArgument(name));
     }
     number_of(name, first)
+}
+
+// The one number that is given, or that none is.
+fn at_most_one(
+    name: CommandName,
+    first: &[u8],
+    second: &[u8],
+) -> Result<Option<u64>, CommandRefusal>
+    ensures { result ≡ at_most_one name first.now second.now }
+{
+    if first.is_empty() {
+        return Ok(None);
+    }
+    let number = one(name, first, second)?;
+    Ok(Some(number))
 }
 
 // The step that a word says: a number is a core under no event, and any other word that of a schedule.
@@ -223,6 +243,7 @@ fn command_named(
         CommandName::Regs => Ok(DebugCommand::Regs(one(name, first, second)?)),
         CommandName::Sets => Ok(DebugCommand::Sets(one(name, first, second)?)),
         CommandName::Why => Ok(DebugCommand::Why(one(name, first, second)?)),
+        CommandName::Pending => Ok(DebugCommand::Pending(at_most_one(name, first, second)?)),
         CommandName::Mem => {
             let (at, count) = two(name, symbols, first, second, third)?;
             Ok(DebugCommand::Mem(at, count))

@@ -105,6 +105,7 @@ fn arguments_line(name: CommandName) -> &'static [u8]
         CommandName::Mem => b"error 71: mem takes an address and a number of bytes\n",
         CommandName::Sets => b"error 71: sets takes a core\n",
         CommandName::Why => b"error 71: why takes a core\n",
+        CommandName::Pending => b"error 71: pending takes a core, or stands alone\n",
         CommandName::List => b"error 71: list takes an address and a number of lines\n",
         CommandName::Help => b"error 71: help stands alone\n",
         CommandName::Quit => b"error 71: quit stands alone\n",

@@ -4,7 +4,7 @@
 ghost use Rattle.std.specs.Prelude.{◌≡◌};
 ghost use Rattle.gdb_packet.specs.Actions.{action_of, entry_says};
 
-use tm_model::Interference;
+use tm_model::Event;
 
 /// So many units from a place on.
 #[derive(Clone, Copy, PartialEq, Eq, Debug, Default)]
@@ -42,10 +42,12 @@ pub enum Monitor {
     Why,
     /// The read sets and write sets.
     Sets,
+    /// The stores that are pending.
+    Pending,
     /// So many of the last steps.
     History(u32),
     /// That the next step be made under an event.
-    Event(Interference),
+    Event(Event),
     /// Anything else.
     Other,
 }

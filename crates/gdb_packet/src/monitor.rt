@@ -4,13 +4,13 @@ ghost use Rattle.std.specs.Prelude.{◌<◌, IfSome};
 
 use crate::command::Monitor;
 use crate::parts::split_at;
-use tm_model::Interference;
+use tm_model::{Event, Interference};
 
 // The most bytes of such a command that are read.
 const MOST_BYTES: usize = 64;
 
-/// What the hex digits of a command of `monitor` ask: `help`, `why`, `sets`, `history` with a decimal number, 10 where
-/// there is none, or `event` with the name of one.
+/// What the hex digits of a command of `monitor` ask: `help`, `why`, `sets`, `pending`, `history` with a decimal
+/// number, 10 where there is none, `event` with the name of one, or `drain`, which is an event of its own.
 pub fn monitor_in(digits: &[u8]) -> Monitor {
     let mut bytes = [0; MOST_BYTES];
     let count = digits.len() / 2;
@@ -24,6 +24,10 @@ pub fn monitor_in(digits: &[u8]) -> Monitor {
         Monitor::Why
     } else if word == b"sets".as_slice() {
         Monitor::Sets
+    } else if word == b"pending".as_slice() {
+        Monitor::Pending
+    } else if word == b"drain".as_slice() {
+        Monitor::Event(Event::Drain)
     } else if word == b"history".as_slice() {
         match decimal_in(argument) {
             Some(number) => Monitor::History(number),
@@ -39,14 +43,19 @@ pub fn monitor_in(digits: &[u8]) -> Monitor {
 // The event of a name.
 fn event_in(name: &[u8]) -> Monitor {
     if name == b"interrupt".as_slice() {
-        Monitor::Event(Interference::Interrupt)
+        aborted_by(Interference::Interrupt)
     } else if name == b"eviction".as_slice() {
-        Monitor::Event(Interference::Eviction)
+        aborted_by(Interference::Eviction)
     } else if name == b"snoop".as_slice() {
-        Monitor::Event(Interference::Snoop)
+        aborted_by(Interference::Snoop)
     } else {
         Monitor::Other
     }
+}
+
+// The event that an abort from outside of the program is.
+fn aborted_by(by: Interference) -> Monitor {
+    Monitor::Event(Event::Abort(by))
 }
 
 // The number of at most three decimal digits, 10 where there are none.

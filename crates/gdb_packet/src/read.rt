@@ -208,7 +208,7 @@ pub fn read_command(packet: &[u8]) -> Command
 mod tests {
     use super::*;
     use crate::command::{Action, Monitor, Setting};
-    use tm_model::Interference;
+    use tm_model::{Event, Interference};
 
     // What the packet `vCont` and these actions tells a thread to do.
     fn told(packet: &[u8], thread: u32) -> Option<Action> {
@@ -246,7 +246,15 @@ mod tests {
         );
         assert_eq!(rt;
             read_command(b"qRcmd,6576656e7420736e6f6f70"),
-            Command::Ask(Question::Monitor(Monitor::Event(Interference::Snoop)))
+            Command::Ask(Question::Monitor(Monitor::Event(Event::Abort(Interference::Snoop))))
+        );
+        assert_eq!(rt;
+            read_command(b"qRcmd,647261696e"),
+            Command::Ask(Question::Monitor(Monitor::Event(Event::Drain)))
+        );
+        assert_eq!(rt;
+            read_command(b"qRcmd,70656e64696e67"),
+            Command::Ask(Question::Monitor(Monitor::Pending))
         );
     }
 }

@@ -19,6 +19,7 @@ use tm_model::{Event, Interference, Pick};
 pub const LIMITS: Limits = Limits {
     read_lines: 512,
     write_lines: 512,
+    stores: 0,
 };
 
 // XBEGIN at 100h with fallback 115h, a load of [1000h], INC EAX, a store to [1000h], XEND at 111h, and two HLT.

@@ -331,6 +331,7 @@ broken_rose (command.Regs core) q s d1 d2 broken = broken.2.failures
 broken_rose (command.Mem at number) q s d1 d2 broken = broken.2.failures
 broken_rose (command.Sets core) q s d1 d2 broken = broken.2.failures
 broken_rose (command.Why core) q s d1 d2 broken = broken.2.failures
+broken_rose (command.Pending core) q s d1 d2 broken = broken.2.failures
 broken_rose (command.List at number) q s d1 d2 broken = broken.2.failures
 broken_rose command.Help q s d1 d2 broken = broken.2.failures
 broken_rose command.Quit q s d1 d2 broken = broken.2.failures

@@ -200,6 +200,7 @@ TakesMemory (command.Next number) = ⊥
 TakesMemory (command.Break address) = ⊥
 TakesMemory (command.Clear address) = ⊥
 TakesMemory (command.Regs core) = ⊥
+TakesMemory (command.Pending core) = ⊥
 TakesMemory (command.Mem at number) = ⊥
 TakesMemory (command.List at number) = ⊥
 TakesMemory command.Help = ⊥

@@ -3,7 +3,7 @@ use Rattle.std.specs.Prelude.{◌≡◌, ◌⊎◌, ℕ, zero, suc, ◌+◌, ◌
 use Rattle.std.specs.Prelude.{not, if◌then◌else◌, List, [], ◌∷◌, ◌++◌, codes, drop, take, length, nat_eq, nat_le}
 use Rattle.std.specs.Prelude.{nat_lt, Option, Some, None, is_some, Result, Ok, Err}
 use Rattle.std.specs.Fmt.{decimal}
-use Rattle.std.specs.List.{flat_map, list_any, position, remove, slice_get}
+use Rattle.std.specs.List.{flat_map, list_any, position, range_with_len, remove, slice_get}
 use Rattle.std.specs.List.Sorted.{IsStrictlyIncreasing}
 use Rattle.std.specs.FinSet as set
 use Rattle.ia_image.specs.Program.{ProgramValue as Program, code_of}
@@ -16,9 +16,9 @@ use Rattle.tm_model.specs.declared.outcome.CoreState.TheVariants.{Mid}
 use Rattle.tm_model.specs.declared.outcome.Event.{Event}
 use Rattle.tm_model.specs.declared.outcome.Outcome.{Outcome}
 use Rattle.tm_model.specs.declared.outcome.Pick.{Pick}
-use Rattle.tm_core.specs.Theorem.{ShownMachine as Machine, view_at}
+use Rattle.tm_core.specs.Theorem.{ShownMachine as Machine, pending_at, view_at}
 use Rattle.tm_hist.specs.Board.{IsHistory, IsOwedNext, SameBoard, ShownBoard as Board, stop_shown}
-use Rattle.tm_hist.specs.Lines.{core_text, dump_lines, outcome_line, state_word}
+use Rattle.tm_hist.specs.Lines.{core_text, dump_lines, outcome_line, pending_text, state_word}
 use Rattle.text_out.specs.TextLine.{line_end, number_text}
 use Rattle.tm_hist.specs.Machine.{shown_regs, shown_state}
 use Rattle.tm_hist.specs.Back.{IsFirst}
@@ -32,7 +32,7 @@ use Rattle.tm_trace.specs.declared.deed.Deed.{Deed}
 use Rattle.debug_command.specs.declared.command.DebugCommand.{DebugCommand}
 use Rattle.debug_command.specs.declared.command.DebugCommand.TheVariants.{Step, Run, Next, Back, Break, Clear, Regs}
 use Rattle.debug_command.specs.declared.command.DebugCommand.TheVariants.{Mem}
-use Rattle.debug_command.specs.declared.command.DebugCommand.TheVariants.{Sets, Why}
+use Rattle.debug_command.specs.declared.command.DebugCommand.TheVariants.{Pending, Sets, Why}
 use Rattle.debug_command.specs.declared.command.DebugCommand.TheVariants.{List as Listing, Help, Quit}
 use Rattle.debug_command.specs.declared.manner.Manner.{Manner}
 use Rattle.debug_command.specs.declared.manner.Manner.TheVariants.{Plain, Spoken}
@@ -443,6 +443,25 @@ why_by session (Some core) text =
 abbrev pub WhyAnswer : SessionValue → ℕ → List ℕ → SessionValue → Type 0
 WhyAnswer from core text to = why_by from (core_named from core) text × (to ≡ from)
 
+-- the line of a core that has none
+unfoldable pub none_pending : ℕ → List ℕ
+none_pending core = codes "pending " ++ number_text core ++ codes " -\n"
+
+-- the stores of a core that are pending, a line each, the oldest first
+abbrev pub pending_lines : Machine → ℕ → List ℕ
+pending_lines machine core =
+    if nat_eq (length (pending_at machine core)) 0 then none_pending core else pending_text machine core
+
+abbrev pub pending_by : SessionValue → Option ℕ → List ℕ
+pending_by session None = refusal_line session.manner (NoSuchCore (cores_of session))
+pending_by session (Some core) = pending_lines session.board.machine core
+
+-- of this core, or of all cores
+abbrev pub pending_answer : SessionValue → Option ℕ → List ℕ
+pending_answer session (Some core) = pending_by session (core_named session core)
+pending_answer session None =
+    flat_map (pending_lines session.board.machine) (range_with_len 0 (cores_of session))
+
 -- a text with this answer was written, or a beginning of it
 abbrev pub TellsAnswer : {T E : Type 0} → (List ℕ → SessionValue → Type 0) → Device → Device → SessionValue → Result T E
     → Type 0
@@ -462,6 +481,7 @@ Answers (Regs core) from text to = (text ≡ regs_answer from core) × (to ≡ f
 Answers (Mem at number) from text to = (text ≡ mem_answer from.manner from.board.machine at number) × (to ≡ from)
 Answers (Sets core) from text to = SetsAnswer from core text to
 Answers (Why core) from text to = WhyAnswer from core text to
+Answers (Pending core) from text to = (text ≡ pending_answer from core) × (to ≡ from)
 Answers (Listing at number) from text to =
     (text ≡ list_answer from.manner (told_labels from) from.board.program at number) × (to ≡ from)
 Answers Help from text to = (text ≡ help_text) × (to ≡ from)
@@ -479,6 +499,7 @@ AnswersBroken (Regs core) from old new to = AnswerStopped (Answers (Regs core) f
 AnswersBroken (Mem at number) from old new to = AnswerStopped (Answers (Mem at number) from) old new to
 AnswersBroken (Sets core) from old new to = AnswerStopped (Answers (Sets core) from) old new to
 AnswersBroken (Why core) from old new to = AnswerStopped (Answers (Why core) from) old new to
+AnswersBroken (Pending core) from old new to = AnswerStopped (Answers (Pending core) from) old new to
 AnswersBroken (Listing at number) from old new to = AnswerStopped (Answers (Listing at number) from) old new to
 AnswersBroken Help from old new to = AnswerStopped (Answers Help from) old new to
 AnswersBroken Quit from old new to = AnswerStopped (Answers Quit from) old new to

@@ -15,7 +15,7 @@ fn lines() -> &'static [u8]
     ensures { result.now ≡ help_text }
 {
     b"\
-step C     one step of core C; Ci, Ce, Cs: under an interrupt, an eviction, a snoop
+step C     one step of core C; Ci, Ce, Cs, Cd: interrupt, eviction, snoop, drain
 run N      1 to 100000 steps, of each core in turn
 next N     the next 1 to 100000 steps of the schedule
 back N     takes the last N steps back
@@ -25,6 +25,7 @@ regs C     the state and the registers of core C
 mem A N    1 to 256 bytes of memory, from address A on
 sets C     the lines that core C has read and written in its transaction
 why C      why the next step of core C is an abort, if it is one
+pending C  the stores of core C that are not in memory yet; of all cores without C
 list A N   1 to 64 lines of the code, from address A on
 help       these lines
 quit       ends the session

@@ -17,6 +17,7 @@ mod help;
 mod input;
 mod interruption;
 mod line;
+mod pending;
 mod prompt;
 mod run;
 mod session;

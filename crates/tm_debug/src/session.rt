@@ -18,6 +18,7 @@ use crate::help::help;
 use crate::input::In;
 use crate::interruption::{Interruption, answer_result};
 use crate::line::{InputLine, MOST_BYTES, read_line};
+use crate::pending::pending;
 use crate::prompt::prompt;
 use crate::run::run;
 use crate::sets::sets;
@@ -148,6 +149,7 @@ fn act<O: Out>(
         )),
         DebugCommand::Sets(core) => sets(alloc, state, core, out),
         DebugCommand::Why(core) => why(alloc, state, core, out),
+        DebugCommand::Pending(core) => answer_result(pending(state, core, out)),
         DebugCommand::List(at, count) => answer_result(list(
             state.manner,
             state.told_labels(),

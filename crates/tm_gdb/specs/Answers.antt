@@ -19,7 +19,6 @@ use Rattle.gdb_target.specs.declared.shown.CoreShown.{CoreShown}
 use Rattle.gdb_target.specs.Memory.{memory_text}
 use Rattle.gdb_target.specs.Registers.{register_of, register_text, registers_text}
 use Rattle.gdb_target.specs.Shown.{IsShown}
-use Rattle.tm_model.specs.declared.outcome.Event.TheVariants as event
 use Rattle.tm_gdb.specs.Back.{RunsBack, StepsBack}
 use Rattle.tm_gdb.specs.Moves.{Continues, Resumes, StepsAlone, names_stranger, selected_goers}
 use Rattle.tm_gdb.specs.Points.{set_break, set_watch, unset_break, unset_watch}
@@ -68,9 +67,10 @@ Tells question.Unknown target text = text ≡ []
 Tells question.Kill target text = text ≡ []
 Tells _ target text = Unit {0}
 
--- a question changes nothing, but that `monitor event` names the event that the next step comes under
+-- a question changes nothing, but that `monitor event` and `monitor drain` name the event that the next step comes
+-- under
 abbrev pub asked_of : Question → TargetValue → TargetValue
-asked_of (question.Monitor (monitor.Event by)) target = record target { event = Some (event.Abort by) }
+asked_of (question.Monitor (monitor.Event named)) target = record target { event = Some named }
 asked_of _ target = target
 
 -- what a move does

@@ -21,7 +21,6 @@ use gdb_packet::{Bytes, Command, Monitor, Move, PointKind, Question, Setting, Sp
 use gdb_target::{push_thread, push_threads};
 use std::alloc::{AllocError, Global};
 use text_out::page::push;
-use tm_model::Event;
 
 // What the target can do.
 fn features() -> &'static [u8]
@@ -96,13 +95,13 @@ fn tell(alloc: Global, target: &Target, asked: Question, row: &mut Bytes) -> Res
     Ok(())
 }
 
-// What a question changes: `monitor event` names the event of the next step.
+// What a question changes: `monitor event` and `monitor drain` name the event of the next step.
 fn note(target: &mut Target, asked: Question)
     ensures value { value_of target.new ≡ asked_of asked (value_of target.old) }
     ensures same { SameBoard target.old.board target.new.board }
 {
-    if let Question::Monitor(Monitor::Event(by)) = asked {
-        target.event = Some(Event::Abort(by));
+    if let Question::Monitor(Monitor::Event(event)) = asked {
+        target.event = Some(event);
     }
 }
 

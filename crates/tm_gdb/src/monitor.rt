@@ -13,8 +13,8 @@ use std::alloc::{AllocError, Global};
 use text_out::page::{Page, push, push_hex};
 use text_out::{Out, WriteFault};
 use tm_core::Machine;
-use tm_hist::{interference_text, write_outcome};
-use tm_model::Interference;
+use tm_hist::{interference_text, write_outcome, write_pending};
+use tm_model::Event;
 use tm_sets::Kind;
 
 /// The text of a command of `monitor`, which ends where 8000 bytes are full. `AllocError`, where there was no memory
@@ -25,11 +25,14 @@ pub fn monitor_text(alloc: Global, target: &Target, asked: Monitor) -> Result<Te
         Monitor::Help => write_words(&mut text),
         Monitor::Why => write_reasons(alloc, &target.board, &mut text)?,
         Monitor::Sets => write_sets(alloc, target.board.machine(), &mut text)?,
+        Monitor::Pending => {
+            let _ = write_stores(target.board.machine(), &mut text);
+        }
         Monitor::History(count) => {
             let _ = write_history(target, count, &mut text);
         }
-        Monitor::Event(by) => {
-            let _ = write_event(by, &mut text);
+        Monitor::Event(event) => {
+            let _ = write_event(event, &mut text);
         }
         Monitor::Other => write_words(&mut text),
     }
@@ -42,16 +45,38 @@ fn write_words(text: &mut Text) {
         b"help             these lines\n\
 why              why the next step of a core is an abort, where it is one\n\
 sets             the lines that each core has read and written in its transaction\n\
+pending          the stores of each core that are not in memory yet\n\
 history N        the last N steps, 10 where N is left out\n\
-event KIND       the next step comes under an interrupt, an eviction or a snoop\n",
+event KIND       the next step comes under an interrupt, an eviction or a snoop\n\
+drain            the next step is the drain of its core's oldest pending store\n",
     );
 }
 
 // The event that the next step comes under.
-fn write_event<O: Out>(by: Interference, out: &mut O) -> Result<(), WriteFault> {
+fn write_event<O: Out>(event: Event, out: &mut O) -> Result<(), WriteFault> {
     out.put(b"the next step comes under: ")?;
-    out.put(interference_text(by))?;
+    out.put(event_text(event))?;
     out.put(b"\n")?;
+    Ok(())
+}
+
+fn event_text(event: Event) -> &'static [u8] {
+    match event {
+        Event::Abort(by) => interference_text(by),
+        Event::Drain => b"drain",
+    }
+}
+
+// The stores of each core that are pending, a line each, or that there is none.
+fn write_stores<O: Out>(machine: &Machine, out: &mut O) -> Result<(), WriteFault> {
+    let mut has_none = true;
+    for core in 0..machine.cores() {
+        has_none = has_none && machine.pending(core).unwrap().is_empty();
+        write_pending(machine, core, out)?;
+    }
+    if has_none {
+        out.put(b"no store is pending\n")?;
+    }
     Ok(())
 }
 
