@@ -5,15 +5,15 @@ _elide_options() {
     case $1 in
     asm) echo '--help --list --words --color' ;;
     dis) echo '--help --labels --words --color' ;;
-    run) echo '--help --cores --mem --entry --reads --writes --dump --show --steps --schedule --trace --code --why --expect-halt --in-turn --random --events --seed --limit --record --json --words --color' ;;
+    run) echo '--help --cores --mem --entry --reads --writes --store-buffer --dump --show --steps --schedule --trace --code --why --expect-halt --in-turn --random --events --seed --limit --record --json --words --color' ;;
     threads) echo '--help --cores --mem --entry --reads --writes --dump --show --budget --burst --events --seed --why --stats --json --record --words --color' ;;
-    replay) echo '--help --cores --mem --entry --reads --writes --dump --show --steps --schedule --why --in-turn --random --events --seed --limit --record --json --words --color' ;;
-    debug) echo '--help --cores --mem --entry --reads --writes --dump --steps --schedule --in-turn --random --events --seed --limit --words --color' ;;
-    gdb) echo '--help --cores --mem --entry --reads --writes --steps --schedule --in-turn --random --events --seed --limit --words --color' ;;
-    hunt) echo '--help --cores --mem --entry --reads --writes --check --forbid --stop --expect-halt --runs --seed --method --events --limit --jobs --record --page --json --words --color' ;;
-    outcomes) echo '--help --cores --mem --entry --reads --writes --show --names --events --limit --check --forbid --stop --stuck --page --json --words --color' ;;
+    replay) echo '--help --cores --mem --entry --reads --writes --store-buffer --dump --show --steps --schedule --why --in-turn --random --events --seed --limit --record --json --words --color' ;;
+    debug) echo '--help --cores --mem --entry --reads --writes --store-buffer --dump --steps --schedule --in-turn --random --events --seed --limit --words --color' ;;
+    gdb) echo '--help --cores --mem --entry --reads --writes --store-buffer --steps --schedule --in-turn --random --events --seed --limit --words --color' ;;
+    hunt) echo '--help --cores --mem --entry --reads --writes --store-buffer --check --forbid --stop --expect-halt --runs --seed --method --events --limit --jobs --record --page --json --words --color' ;;
+    outcomes) echo '--help --cores --mem --entry --reads --writes --store-buffer --show --names --events --limit --check --forbid --stop --stuck --page --json --words --color' ;;
     test) echo '--help --list --jobs --json --words --color' ;;
-    stats) echo '--help --cores --mem --entry --reads --writes --steps --schedule --in-turn --random --events --seed --limit --record --json --words --color' ;;
+    stats) echo '--help --cores --mem --entry --reads --writes --store-buffer --steps --schedule --in-turn --random --events --seed --limit --record --json --words --color' ;;
     draw) echo '--help --cores --mem --entry --reads --writes --show --steps --schedule --in-turn --random --events --seed --limit --record --from --to --core --words --color' ;;
     page) echo '--help --cores --mem --entry --reads --writes --show --steps --schedule --in-turn --random --events --seed --limit --from --to --note --title --output --words --color' ;;
     explain) echo '--help --words --color' ;;
@@ -73,6 +73,7 @@ _elide_value() {
     'run --entry' | \
     'run --reads' | \
     'run --writes' | \
+    'run --store-buffer' | \
     'run --dump' | \
     'run --show' | \
     'run --steps' | \
@@ -96,6 +97,7 @@ _elide_value() {
     'replay --entry' | \
     'replay --reads' | \
     'replay --writes' | \
+    'replay --store-buffer' | \
     'replay --dump' | \
     'replay --show' | \
     'replay --steps' | \
@@ -108,6 +110,7 @@ _elide_value() {
     'debug --entry' | \
     'debug --reads' | \
     'debug --writes' | \
+    'debug --store-buffer' | \
     'debug --dump' | \
     'debug --steps' | \
     'debug --random' | \
@@ -119,6 +122,7 @@ _elide_value() {
     'gdb --entry' | \
     'gdb --reads' | \
     'gdb --writes' | \
+    'gdb --store-buffer' | \
     'gdb --steps' | \
     'gdb --random' | \
     'gdb --events' | \
@@ -129,6 +133,7 @@ _elide_value() {
     'hunt --entry' | \
     'hunt --reads' | \
     'hunt --writes' | \
+    'hunt --store-buffer' | \
     'hunt --check' | \
     'hunt --forbid' | \
     'hunt --stop' | \
@@ -142,6 +147,7 @@ _elide_value() {
     'outcomes --entry' | \
     'outcomes --reads' | \
     'outcomes --writes' | \
+    'outcomes --store-buffer' | \
     'outcomes --show' | \
     'outcomes --events' | \
     'outcomes --limit' | \
@@ -155,6 +161,7 @@ _elide_value() {
     'stats --entry' | \
     'stats --reads' | \
     'stats --writes' | \
+    'stats --store-buffer' | \
     'stats --steps' | \
     'stats --random' | \
     'stats --events' | \

@@ -47,6 +47,7 @@ pub record IsMachine (found : Found) (options : MachineOptions) : Type 0 where
   pub entry : first_value found (codes "entry") ≡ option_copied options.entry
   pub reads : first_value found (codes "reads") ≡ option_copied options.reads
   pub writes : first_value found (codes "writes") ≡ option_copied options.writes
+  pub stores : first_value found (codes "store-buffer") ≡ option_copied options.store_buffer
 
 -- what is printed of memory: the values of both options, in the order of the command line
 pub record IsShown (found : Found) (options : MachineOptions) : Type 0 where

@@ -113,6 +113,12 @@ pub const WRITES: OptionText = OptionText {
     help: "Lines of 64 bytes that a transaction can write, 1 to 4096 [default: 512]",
 };
 
+pub const STORE_BUFFER: OptionText = OptionText {
+    name: "store-buffer",
+    form: Form::Value("N"),
+    help: "Stores of each core that may be pending before they reach memory, 0 to 64 [default: 0]",
+};
+
 pub const DUMP: OptionText = OptionText {
     name: "dump",
     form: Form::Several("AT:BYTES"),
@@ -134,7 +140,7 @@ pub const SHOW_VALUE: OptionText = OptionText {
 pub const STEPS: OptionText = OptionText {
     name: "steps",
     form: Form::Value("LIST"),
-    help: "The schedule: core numbers, as \"0 1 0 1\"; 0i, 0e, 0s: under an interrupt, an eviction, a snoop",
+    help: "The schedule: core numbers, as \"0 1 0 1\"; 0i, 0e, 0s, 0d: under an interrupt, an eviction, a snoop, a drain",
 };
 
 pub const SCHEDULE: OptionText = OptionText {
@@ -182,7 +188,7 @@ pub const RANDOM: OptionText = OptionText {
 pub const EVENTS: OptionText = OptionText {
     name: "events",
     form: Form::Value("1/N[:KINDS]"),
-    help: "Aborts from outside: one step in N comes under an event, `interrupt` or those of interrupt, eviction and snoop that are named; `1`: each step",
+    help: "Events: one step in N comes under one, `interrupt` or those of interrupt, eviction, snoop and drain that are named; `1`: each step",
 };
 
 pub const EVENTS_OF_RUNS: OptionText = OptionText {

@@ -243,6 +243,8 @@ pub struct MachineOptions<'a> {
     pub reads: Option<&'a str>,
     /// `--writes`.
     pub writes: Option<&'a str>,
+    /// `--store-buffer`.
+    pub store_buffer: Option<&'a str>,
     /// `--dump`, in the order of the command line.
     pub dumps: Vec<&'a str>,
     /// `--show` of a run, in the order of the command line.

@@ -344,6 +344,7 @@ fn machine_of<'a>(alloc: Global, file: &'a str, options: &ArgMatches<'a>) -> Mac
         entry: options.get_str("entry"),
         reads: options.get_str("reads"),
         writes: options.get_str("writes"),
+        store_buffer: options.get_str("store-buffer"),
         dumps: Vec::new(alloc),
         shows: Vec::new(alloc),
     }
