@@ -44,6 +44,8 @@ pub data IsMisread (options : MachineOptions) (why : ProgramRefusal) : Type 0 wh
       → IsMisread options why
   bad_writes : number_or 512 (option_copied options.writes) ≡ None → NamesOption (codes "--writes") why
       → IsMisread options why
+  bad_stores : number_or 0 (option_copied options.store_buffer) ≡ None → NamesOption (codes "--store-buffer") why
+      → IsMisread options why
   bad_dump : (text : Bor (List ℕ)) → Contains options.dumps.items text → IsNoDump text.now
       → NamesOption (codes "--dump") why → IsMisread options why
   bad_show : (text : Bor (List ℕ)) → Contains options.shows.items text → is_sum_form text.now ≡ false

@@ -1,5 +1,6 @@
 -- What the options of a command line say of a machine (docs/FORMATS.md, "Options of the command line").
-use Rattle.std.specs.Prelude.{◌≡◌, ℕ, ◌^◌, List, nat_lt, if◌then◌else◌, Option, Some, None, option_and_then, option_map}
+use Rattle.std.specs.Prelude.{◌≡◌, ℕ, ◌^◌, Bool, false, List, nat_lt, if◌then◌else◌, Option, Some, None}
+use Rattle.std.specs.Prelude.{option_and_then, option_map}
 use Rattle.std.specs.Option.{option_copied}
 use Rattle.ia_lex.specs.Numbers.{word_number}
 use Rattle.elide_args.specs.declared.subcommand.MachineOptions.{MachineOptions}
@@ -21,6 +22,14 @@ abbrev pub number_or : ℕ → Option (List ℕ) → Option ℕ
 number_or default None = Some default
 number_or default (Some word) = word32 word
 
+-- stores may be pending: the option says how many, and not 0
+abbrev pub is_above_none : Option ℕ → Bool
+is_above_none None = false
+is_above_none (Some number) = nat_lt 0 number
+
+abbrev pub has_store_buffer : MachineOptions → Bool
+has_store_buffer options = is_above_none (number_or 0 (option_copied options.store_buffer))
+
 -- the numbers of a machine are those that the options say, its cores begin where they say, and what is printed of
 -- memory is what they ask for
 pub record AreSettings (options : MachineOptions) (settings : Settings) : Type 0 where
@@ -29,5 +38,6 @@ pub record AreSettings (options : MachineOptions) (settings : Settings) : Type 0
   pub entries : option_map (λ list. list.text.now) settings.entries ≡ option_copied options.entry
   pub reads : number_or 512 (option_copied options.reads) ≡ Some settings.reads
   pub writes : number_or 512 (option_copied options.writes) ≡ Some settings.writes
+  pub stores : number_or 0 (option_copied options.store_buffer) ≡ Some settings.stores
   pub dumps : settings.dumps.now ≡ options.dumps.items
   pub shows : settings.shows.now ≡ options.shows.items

@@ -33,6 +33,6 @@ pub use host_paths::HostPaths;
 pub use parts::{Dump, MemoryParts};
 pub use paths::{Obstacle, Paths, ReadFault, Text, name_of};
 pub use row::{add, add_text};
-pub use settings::{Settings, number_of};
+pub use settings::{Settings, has_store_buffer, number_of};
 pub use sums::sum_of;
 pub use warned::WarnedPaths;

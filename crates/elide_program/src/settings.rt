@@ -1,8 +1,10 @@
 //! The options that `run`, `threads`, `replay` and `debug` have alike, as numbers and lists.
 //!
-//! [`Settings::read`] goes by `--cores`, `--mem`, `--entry`, `--reads`, `--writes`, `--dump`, `--show`, and tells the
-//! first that is misread. It opens no file: names are tested for their form alone. That there are such cores, such a
-//! memory and such limits is tested by who makes the machine.
+//! [`Settings::read`] goes by `--cores`, `--mem`, `--entry`, `--reads`, `--writes`, `--store-buffer`, `--dump`,
+//! `--show`, and tells the first that is misread. It opens no file: names are tested for their form alone. That there
+//! are such cores, such a memory and such limits is tested by who makes the machine.
+//!
+//! [`has_store_buffer`] looks at that one option alone, for who asks of nothing else whether stores may be pending.
 
 ghost use Rattle.std.specs.Prelude.{◌≡◌, Contains, IfErr, IfOk, List, MatchResult, None, Some, codes, false};
 ghost use Rattle.std.specs.Prelude.{option_map, ℕ};
@@ -11,7 +13,7 @@ ghost use Rattle.std.specs.Borrow.{Bor};
 ghost use Rattle.elide_program.specs.Entries.{is_entry_list};
 ghost use Rattle.elide_program.specs.Forms.{IsNoDump, is_sum_form};
 ghost use Rattle.elide_program.specs.Refusals.{NamesOption};
-ghost use Rattle.elide_program.specs.Settings.{number_or, number_said};
+ghost use Rattle.elide_program.specs.Settings.{has_store_buffer, number_or, number_said};
 
 use crate::entries::EntryList;
 use crate::fault::ProgramRefusal;
@@ -29,6 +31,10 @@ const MEMORY: u32 = 65_536;
 /// How many lines a transaction can read where `--reads` is not given, and write where `--writes` is not given.
 const LINES: u32 = 512;
 
+/// How many stores of a core may be pending where `--store-buffer` is not given: what a step stores is in memory at
+/// once.
+const STORES: u32 = 0;
+
 /// What the options say of a machine. Ranges are tested where the machine is made.
 #[derive(Clone, Copy)]
 pub struct Settings<'a> {
@@ -42,6 +48,8 @@ pub struct Settings<'a> {
     pub reads: u32,
     /// How many lines a transaction can write.
     pub writes: u32,
+    /// How many stores of a core may be pending.
+    pub stores: u32,
     /// The parts of memory that are printed, each as `AT:BYTES`.
     pub dumps: &'a [&'a str],
     /// Where the doublewords stand that are printed.
@@ -53,7 +61,7 @@ impl<'a> Settings<'a> {
     ghost use Rattle.elide_program.specs.Settings.{AreSettings};
 
     /// Reads the options in the order in which their misuse is told. Where they are not given there is 1 core with a
-    /// memory of 65536 bytes, and a transaction can read and write 512 lines.
+    /// memory of 65536 bytes, a transaction can read and write 512 lines, and no store is pending.
     pub fn read(options: &'a MachineOptions<'a>) -> Result<Settings<'a>, ProgramRefusal>
         ensures settings { IfOk result (λ settings. AreSettings options.now settings) }
         ensures misread { IfErr result (IsMisread options.now) }
@@ -63,6 +71,7 @@ impl<'a> Settings<'a> {
         let entries = entries_of(options.entry, cores)?;
         let reads = number_or(options.reads, LINES, "--reads")?;
         let writes = number_or(options.writes, LINES, "--writes")?;
+        let stores = number_or(options.store_buffer, STORES, "--store-buffer")?;
         let dumps = options.dumps.as_slice();
         let shows = options.shows.as_slice();
         check_dumps(dumps)?;
@@ -73,9 +82,21 @@ impl<'a> Settings<'a> {
             entries,
             reads,
             writes,
+            stores,
             dumps,
             shows,
         })
+    }
+}
+
+/// Whether the options say that stores may be pending: `--store-buffer` is a number of 1 or more. A value that is no
+/// number is told by [`Settings::read`].
+pub fn has_store_buffer(options: &MachineOptions<'_>) -> bool
+    ensures { result ≡ has_store_buffer options.now }
+{
+    match number_or(options.store_buffer, STORES, "--store-buffer") {
+        Ok(stores) => stores > 0,
+        Err(_) => false,
     }
 }
 

@@ -11,14 +11,14 @@ use Rattle.tm_model.specs.declared.outcome.Outcome.{Outcome}
 use Rattle.tm_model.specs.declared.outcome.Outcome.TheVariants.{Idle}
 use Rattle.tm_model.specs.declared.outcome.Pick.{Pick}
 use Rattle.elide_setup.proofs.Alone.{lone_history, lone_owed, lone_picks, lone_steps}
+use Rattle.elide_setup.proofs.Runs.{same_rules}
 use Rattle.ia_image.specs.Program.{ProgramValue as Program}
 use Rattle.elide_setup.specs.Owing.{AreOwedUnder, history_made}
 use Rattle.elide_setup.specs.Runs.{AreBoardSteps}
 use Rattle.elide_setup.specs.Schedules.{lone_pick, picks_made}
-use Rattle.tm_core.specs.declared.limits.Limits.{Limits}
-use Rattle.tm_hist.specs.Board.{AreSteps, IsHistory, SameBoard, ShownBoard as Board, board_setting, pairs_behind}
+use Rattle.tm_hist.specs.Board.{AreSteps, IsHistory, ShownBoard as Board, board_setting, pairs_behind}
 use Rattle.tm_model.proofs.NonePending.{none_at_end, none_at_first}
-use Rattle.tm_model.specs.Setting.{Setting, program_setting}
+use Rattle.tm_model.specs.Setting.{Setting}
 use Rattle.tm_model.specs.State.{State, opening_state}
 
 -- the last steps of a run are owed behind the first ones
@@ -43,17 +43,12 @@ own_cores : (core : ℕ) (history : List (ℕ × Outcome))
 own_cores core history own = All-weaker (λ (pair : ℕ × Outcome). (pair.0 ≡ core) × (pair.1 ≢ Idle))
     (λ (pair : ℕ × Outcome). pair.0 ≡ core) (λ pair h. h.0) history own
 
-same_rules : (before after : Board) → SameBoard before after → board_setting after ≡ board_setting before
-same_rules before after same =
-    ap (λ (p : Program). program_setting p after.limits.read_lines after.limits.write_lines 0) same.program
-    ∙ ap (λ (l : Limits). program_setting before.program l.read_lines l.write_lines 0) same.limits
-
 -- what a board's own steps come to
-pub board_run : (before after : Board) (core count : ℕ) → IsHistory before → IsHistory after
+pub board_run : (before after : Board) (core count : ℕ) → before.limits.stores ≡ 0 → IsHistory before → IsHistory after
     → AreSteps before after core count →
     (steps : List (Pick × Outcome)) × (picks_made steps ≡ replicate count (lone_pick core))
     × AreBoardSteps before steps after
-board_run before after core count was law made =
+board_run before after core count off was law made =
     let more : List (ℕ × Outcome) = pairs_behind before after in
     let k : Setting = board_setting before in
     let none : Doomed = λ _. None in
@@ -70,8 +65,8 @@ board_run before after core count was law made =
         same = made.same;
         history = made.history ∙ ap (λ l. before.history ++ l) (sym (lone_history more));
         under = λ end at.
-            lone_owed k end (doomed_at_end k (opening_state before.program) none before.history) more refl
-            (none_at_end k (opening_state before.program) before.history end refl (none_at_first before.program) at)
+            lone_owed k end (doomed_at_end k (opening_state before.program) none before.history) more off
+            (none_at_end k (opening_state before.program) before.history end off (none_at_first before.program) at)
             (owed_behind k (opening_state before.program) none before.history more end owed at) made.alone;
         was = was;
       },

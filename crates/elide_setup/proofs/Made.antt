@@ -4,7 +4,7 @@ use Rattle.std.specs.Borrow.{Bor}
 use Rattle.elide_args.specs.declared.subcommand.MachineOptions.{MachineOptions}
 use Rattle.elide_args.specs.declared.subcommand.ScheduleOptions.{ScheduleOptions}
 use Rattle.elide_program.specs.ProgramFile.{IsRead}
-use Rattle.elide_program.specs.Settings.{AreSettings}
+use Rattle.elide_program.specs.Settings.{AreSettings, has_store_buffer}
 use Rattle.elide_program.specs.declared.file.ProgramFile.{ProgramFile}
 use Rattle.elide_program.specs.declared.settings.Settings.{Settings}
 use Rattle.tm_model.specs.declared.outcome.Outcome.{Outcome}
@@ -55,7 +55,7 @@ pub of_plan : (content given left : List ℕ → Option (List ℕ)) (options : M
     ((other : List ℕ) → given other ≡ content other) →
     IsRead (content options.file.now) file → AreSettings options settings →
     ((picks : List Pick) → ArePlanned content plan picks → AreAsked content schedule picks) →
-    plan_form plan ≡ form_asked schedule →
+    plan_form plan ≡ form_asked (has_store_buffer options) schedule →
     HasRunPlan given left file settings plan path → HasRun content left options schedule path
 of_plan content given left options schedule path file settings plan kept read said asked listed run = record {
   setup = run.setup;

@@ -7,7 +7,7 @@ use Rattle.tm_model.specs.declared.outcome.Outcome.{Outcome}
 use Rattle.tm_model.specs.declared.outcome.Pick.{Pick}
 use Rattle.elide_setup.specs.Recorded.{IsRecorded}
 use Rattle.elide_args.specs.declared.subcommand.ScheduleOptions.{ScheduleOptions}
-use Rattle.elide_setup.specs.Drawing.{may_come}
+use Rattle.elide_setup.specs.Drawing.{may_tell}
 use Rattle.elide_setup.specs.Schedules.{AreOf, form_asked, form_of, kept_of, picks_made, picks_told, recorded_text}
 use Rattle.elide_setup.specs.Schedules.{schedule_asked, schedule_made}
 use Rattle.tm_schedule.specs.Schedule.{drawn_text, schedule_text}
@@ -59,7 +59,7 @@ pub recorded_kept : (content : List ℕ → Option (List ℕ)) (path : Option (B
 recorded_kept content None asked steps kept e h = tt
 recorded_kept content (Some path) (course.Listed listed) steps kept e h = h
 recorded_kept content (Some path) (course.Drawn drawn) steps kept e h =
-    subst (λ (picks : List Pick). IsRecorded content (Some path) (drawn_text (may_come drawn.events) picks)) e h
+    subst (λ (picks : List Pick). IsRecorded content (Some path) (drawn_text (may_tell drawn) picks)) e h
 
 -- it is what is to be recorded of the steps that were made
 made_is : (asked : Course) (steps : List (Pick × Outcome)) → AreOf asked (picks_made steps)
@@ -75,10 +75,10 @@ recorded_as form content path asked steps e of h =
     subst (λ (text : List ℕ). IsRecorded content path text)
     (made_is asked steps of ∙ ap (λ (f : Option Bool). recorded_text f steps) e) h
 
-pub recorded_asked : (content : List ℕ → Option (List ℕ)) (path : Option (Bor (List ℕ))) (options : ScheduleOptions)
-    (asked : Course) (steps : List (Pick × Outcome)) → form_of asked ≡ form_asked options
-    → AreOf asked (picks_made steps) →
+pub recorded_asked : (content : List ℕ → Option (List ℕ)) (path : Option (Bor (List ℕ))) (drains : Bool)
+    (options : ScheduleOptions) (asked : Course) (steps : List (Pick × Outcome)) →
+    form_of asked ≡ form_asked drains options → AreOf asked (picks_made steps) →
     IsRecorded content path (schedule_made asked (picks_told steps))
-    → IsRecorded content path (schedule_asked options steps)
-recorded_asked content path options asked steps e of h =
-    recorded_as (form_asked options) content path asked steps e of h
+    → IsRecorded content path (schedule_asked drains options steps)
+recorded_asked content path drains options asked steps e of h =
+    recorded_as (form_asked drains options) content path asked steps e of h

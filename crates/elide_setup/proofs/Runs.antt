@@ -25,7 +25,7 @@ use Rattle.elide_setup.specs.Walks.{Leads, PartsLead, steps_in}
 -- before the first step
 pub run_of_none : (program : Program) (limits : Limits) (machine : Machine)
     → StandsFor machine (opening_state program) (λ _. None) →
-    machine_setting machine ≡ program_setting program limits.read_lines limits.write_lines 0
+    machine_setting machine ≡ program_setting program limits.read_lines limits.write_lines limits.stores
     → length machine.views ≡ length program.entries →
     IsRunOf program limits [] machine
 run_of_none program limits machine stands rules cores = record {
@@ -116,6 +116,14 @@ machine_step {E} event before after pick made (Ok outcome) is same takes run tol
 
 -- ---- of a board
 
+abbrev rules_with : Program → Limits → Setting
+rules_with program limits = program_setting program limits.read_lines limits.write_lines limits.stores
+
+pub same_rules : (before after : Board) → SameBoard before after → board_setting after ≡ board_setting before
+same_rules before after same =
+    ap (λ (p : Program). rules_with p after.limits) same.program
+    ∙ ap (λ (l : Limits). rules_with before.program l) same.limits
+
 -- what a board's own step comes to
 pub board_step : (before after : Board) (pick : Pick) (outcome : Outcome) → SameBoard before after →
     after.history ≡ before.history ++ (pick.core, outcome) ∷ [] → IsOwedNext pick.event before pick.core outcome
@@ -124,12 +132,10 @@ pub board_step : (before after : Board) (pick : Pick) (outcome : Outcome) → Sa
 board_step before after pick outcome same history owed was law =
     let k : Setting = board_setting before in
     let opening : State = opening_state before.program in
-    let same_rules : board_setting after ≡ k =
-    ap (λ (p : Program). program_setting p after.limits.read_lines after.limits.write_lines 0) same.program
-    ∙ ap (λ (l : Limits). program_setting before.program l.read_lines l.write_lines 0) same.limits in
+    let rules : board_setting after ≡ k = same_rules before after same in
     let is : run k opening (before.history ++ (pick.core, outcome) ∷ []) ≡ Some law.end =
     ap (λ (l : List (ℕ × Outcome)). run k opening l) (sym history)
-    ∙ ap (λ (s : Setting). run s opening after.history) (sym same_rules)
+    ∙ ap (λ (s : Setting). run s opening after.history) (sym rules)
     ∙ ap (λ (p : Program). run (board_setting after) (opening_state p) after.history) (sym same.program) ∙ law.is_run in
     record {
       same = same;
@@ -144,9 +150,7 @@ made_more steps others now after made h =
     let none : Doomed = λ _. None in
     let k : Setting = board_setting now in
     let opening : State = opening_state now.program in
-    let same_rules : board_setting after ≡ k =
-    ap (λ (p : Program). program_setting p after.limits.read_lines after.limits.write_lines 0) h.same.program
-    ∙ ap (λ (l : Limits). program_setting now.program l.read_lines l.write_lines 0) h.same.limits in
+    let rules : board_setting after ≡ k = same_rules now after h.same in
     let was : run k opening (history_made steps) ≡ Some h.was.end =
     subst (λ (l : List (ℕ × Outcome)). run k opening l ≡ Some h.was.end) made.history h.was.is_run in
     let next : AreOwedUnder k h.was.end (doomed_at_end k opening none (history_made steps)) others =
@@ -159,7 +163,7 @@ made_more steps others now after made h =
       under =
           subst (λ (p : Program). AreOwedUnder (board_setting after) (opening_state p) none (steps ++ others))
           (sym h.same.program)
-          (subst (λ (s : Setting). AreOwedUnder s opening none (steps ++ others)) (sym same_rules) owed);
+          (subst (λ (s : Setting). AreOwedUnder s opening none (steps ++ others)) (sym rules) owed);
     }
 
 made_on : (before : List (Pick × Outcome)) (parts : List (List (Pick × Outcome))) (now after : Board) →

@@ -1,6 +1,6 @@
 -- What a schedule that is drawn is drawn from (docs/FORMATS.md, "Events that are drawn").
-use Rattle.std.specs.Prelude.{◌≡◌, ◌≢◌, ℕ, Bool, true, false, List, ⊤, All, Option, Some, None, option_and_then, zero}
-use Rattle.std.specs.Prelude.{suc}
+use Rattle.std.specs.Prelude.{◌≡◌, ◌≢◌, ◌||◌, ℕ, Bool, true, false, List, ⊤, All, Option, Some, None, option_and_then}
+use Rattle.std.specs.Prelude.{suc, zero}
 use Rattle.std.specs.Option.{option_copied}
 use Rattle.elide_args.specs.declared.subcommand.ScheduleOptions.{ScheduleOptions}
 use Rattle.tm_model.specs.declared.outcome.Event.{Event}
@@ -85,3 +85,7 @@ abbrev pub may_come : Events → Bool
 may_come Never = false
 may_come (Rate many kinds) = true
 may_come Draw = true
+
+-- whether some step may tell of an event: it may come under one, or be a drain
+abbrev pub may_tell : Drawn → Bool
+may_tell drawn = may_come drawn.events || drawn.drains

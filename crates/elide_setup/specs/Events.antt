@@ -4,9 +4,10 @@ use Rattle.std.specs.Prelude.{ℕ, ◌==◌, ◌&&◌, Bool, true, nat_eq, nat_l
 use Rattle.std.specs.Prelude.{codes, if◌then◌else◌, Option, Some, None, option_and_then}
 use Rattle.std.specs.Cmp.Lexicographic.{pointwise}
 use Rattle.std.specs.List.{after_first, before_first, position_or_len, slice_split}
-use Rattle.tm_model.specs.declared.outcome.Interference.{Interference}
+use Rattle.tm_model.specs.declared.outcome.Event.{Event}
+use Rattle.tm_model.specs.declared.outcome.Event.TheVariants.{Abort, Drain}
 use Rattle.tm_model.specs.declared.outcome.Interference.TheVariants.{Interrupt, Eviction, Snoop}
-use Rattle.tm_pick.specs.Kinds.{has_kind, no_kinds}
+use Rattle.tm_pick.specs.Kinds.{has_event, no_kinds}
 use Rattle.tm_pick.specs.declared.events.Events.{Events}
 use Rattle.tm_pick.specs.declared.events.Events.TheVariants.{Rate}
 use Rattle.tm_pick.specs.declared.kinds.Kinds.{Kinds}
@@ -15,23 +16,25 @@ use Rattle.elide_program.specs.Settings.{word32}
 -- ---- kinds
 
 -- the kind of a name
-abbrev pub kind_said : List ℕ → Option Interference
+abbrev pub kind_said : List ℕ → Option Event
 kind_said name =
-    if pointwise nat_eq name (codes "interrupt") then Some Interrupt
-    else if pointwise nat_eq name (codes "eviction") then Some Eviction
-    else if pointwise nat_eq name (codes "snoop") then Some Snoop
+    if pointwise nat_eq name (codes "interrupt") then Some (Abort Interrupt)
+    else if pointwise nat_eq name (codes "eviction") then Some (Abort Eviction)
+    else if pointwise nat_eq name (codes "snoop") then Some (Abort Snoop)
+    else if pointwise nat_eq name (codes "drain") then Some Drain
     else None
 
 -- these kinds and another one
-abbrev pub and_kind : Kinds → Interference → Kinds
-and_kind kinds Interrupt = record kinds { interrupt = true }
-and_kind kinds Eviction = record kinds { eviction = true }
-and_kind kinds Snoop = record kinds { snoop = true }
+abbrev pub and_kind : Kinds → Event → Kinds
+and_kind kinds (Abort Interrupt) = record kinds { interrupt = true }
+and_kind kinds (Abort Eviction) = record kinds { eviction = true }
+and_kind kinds (Abort Snoop) = record kinds { snoop = true }
+and_kind kinds Drain = record kinds { drain = true }
 
 -- the same, where that is none of them
-abbrev pub with_kind : Kinds → Option Interference → Option Kinds
+abbrev pub with_kind : Kinds → Option Event → Option Kinds
 with_kind kinds None = None
-with_kind kinds (Some by) = if has_kind kinds by then None else Some (and_kind kinds by)
+with_kind kinds (Some event) = if has_event kinds event then None else Some (and_kind kinds event)
 
 -- these kinds, and those of names, each of which is a new one
 abbrev pub kinds_more : Kinds → List (List ℕ) → Option Kinds
@@ -49,7 +52,7 @@ kinds_said text = kinds_more no_kinds (names_in text)
 -- ---- rates
 
 abbrev pub interrupts : Kinds
-interrupts = and_kind no_kinds Interrupt
+interrupts = and_kind no_kinds (Abort Interrupt)
 
 -- one step in 1 to 65,536
 abbrev pub in_range : ℕ → Option ℕ

@@ -5,6 +5,7 @@ use Rattle.elide_args.specs.declared.subcommand.ScheduleOptions.{ScheduleOptions
 use Rattle.elide_places.specs.FileSymbols.{AreSymbolsOf}
 use Rattle.elide_places.specs.declared.file_names.Wants.{Wants}
 use Rattle.elide_program.specs.ProgramFile.{IsFile, file_form}
+use Rattle.elide_program.specs.Settings.{has_store_buffer}
 use Rattle.elide_program.specs.declared.file.ProgramFile.{ProgramFile}
 use Rattle.elide_program.specs.declared.settings.Settings.{Settings}
 use Rattle.elide_setup.specs.Drawing.{IsCourseDraw}
@@ -33,5 +34,5 @@ pub record IsLoadedWith (content : List ℕ → Option (List ℕ)) (options : Ma
   pub named : wants.symbols ≡ true → AreSymbolsOf setup.file loaded.names.symbols.items
   pub course : IsCourseOf content schedule asked
   pub draw : IsCourseDraw schedule asked
-  pub listed : form_of asked ≡ form_asked schedule
+  pub listed : form_of asked ≡ form_asked (has_store_buffer options) schedule
   pub out : (cores : ℕ) (steps : List (Pick × Outcome)) → IsOut asked cores steps → IsAskedOut schedule cores steps

@@ -3,6 +3,7 @@ use Rattle.std.specs.Prelude.{ℕ, List, Option}
 use Rattle.std.specs.Borrow.{Bor}
 use Rattle.elide_args.specs.declared.subcommand.MachineOptions.{MachineOptions}
 use Rattle.elide_args.specs.declared.subcommand.ScheduleOptions.{ScheduleOptions}
+use Rattle.elide_program.specs.Settings.{has_store_buffer}
 use Rattle.elide_program.specs.declared.file.ProgramFile.{ProgramFile}
 use Rattle.elide_program.specs.declared.settings.Settings.{Settings}
 use Rattle.tm_model.specs.declared.outcome.Outcome.{Outcome}
@@ -47,4 +48,4 @@ pub record HasRun (content left : List ℕ → Option (List ℕ)) (options : Mac
   pub steps : AreAsked content schedule (picks_made made)
   pub machine : Machine
   pub ran : IsRunOf setup.program setup.limits made machine
-  pub recorded : IsRecorded left path (schedule_asked schedule made)
+  pub recorded : IsRecorded left path (schedule_asked (has_store_buffer options) schedule made)

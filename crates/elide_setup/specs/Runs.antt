@@ -32,7 +32,7 @@ IsMachineStep before pick outcome after = AreMachineSteps before ((pick, outcome
 pub record IsRunOf (program : Program) (limits : Limits) (steps : List (Pick × Outcome)) (machine : Machine)
     : Type 0 where
   pub start : Machine
-  pub rules : machine_setting start ≡ program_setting program limits.read_lines limits.write_lines 0
+  pub rules : machine_setting start ≡ program_setting program limits.read_lines limits.write_lines limits.stores
   pub cores : length start.views ≡ length program.entries
   pub is_run : IsRun start machine (opening_state program) (λ _. None) (history_made steps)
   pub under : AreOwedUnder (machine_setting start) (opening_state program) (λ _. None) steps

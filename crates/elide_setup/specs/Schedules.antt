@@ -8,7 +8,7 @@ use Rattle.tm_schedule.specs.Schedule.{drawn_text, schedule_of, schedule_text, s
 use Rattle.tm_model.specs.declared.outcome.Outcome.{Outcome}
 use Rattle.tm_model.specs.declared.outcome.Pick.{Pick}
 use Rattle.tm_model.specs.Runs.{picks_of}
-use Rattle.elide_setup.specs.Drawing.{AreUnder, events_asked, may_come}
+use Rattle.elide_setup.specs.Drawing.{AreUnder, events_asked, may_tell}
 use Rattle.elide_setup.specs.Owing.{history_made}
 use Rattle.elide_setup.specs.declared.plan.Course.{Course}
 use Rattle.elide_setup.specs.declared.plan.Course.TheVariants as course
@@ -39,20 +39,20 @@ AreOf (course.Drawn drawn) picks = AreUnder drawn.events picks
 abbrev pub are_listed : ScheduleOptions → Bool
 are_listed options = is_some options.steps || is_some options.path
 
--- how a schedule is recorded: a list by its own steps; one that is drawn by whether its steps may come under events
+-- how a schedule is recorded: a list by its own steps; one that is drawn by whether its steps may tell of events
 abbrev pub form_of : Course → Option Bool
 form_of (course.Listed listed) = None
-form_of (course.Drawn drawn) = Some (may_come drawn.events)
+form_of (course.Drawn drawn) = Some (may_tell drawn)
 
 -- the same of a plan that was read
 abbrev pub plan_form : Plan → Option Bool
 plan_form (plan.Steps listed) = None
 plan_form (plan.File path) = None
-plan_form (plan.Drawn drawn) = Some (may_come drawn.events)
+plan_form (plan.Drawn drawn) = Some (may_tell drawn)
 
--- the same as the options ask
-abbrev pub form_asked : ScheduleOptions → Option Bool
-form_asked options = if are_listed options then None else Some (is_some options.events)
+-- the same as the options ask, on a machine whose stores may be pending or not
+abbrev pub form_asked : Bool → ScheduleOptions → Option Bool
+form_asked drains options = if are_listed options then None else Some (is_some options.events || drains)
 
 -- its list, which is empty where it is drawn
 abbrev pub listed_in : Course → List Pick
@@ -85,7 +85,7 @@ kept_of (course.Drawn drawn) keeps steps = if keeps then picks_told steps else [
 -- the text of the schedule that came about: that of the list, or of the steps that were drawn
 abbrev pub schedule_made : Course → List Pick → List ℕ
 schedule_made (course.Listed listed) drawn_steps = schedule_text listed.items
-schedule_made (course.Drawn drawn) drawn_steps = drawn_text (may_come drawn.events) drawn_steps
+schedule_made (course.Drawn drawn) drawn_steps = drawn_text (may_tell drawn) drawn_steps
 
 -- the same of steps that were made, by how it is recorded
 abbrev pub recorded_text : Option Bool → List (Pick × Outcome) → List ℕ
@@ -93,5 +93,5 @@ recorded_text None steps = schedule_text (picks_made steps)
 recorded_text (Some has_events) steps = drawn_text has_events (picks_told steps)
 
 -- the same as the options ask
-abbrev pub schedule_asked : ScheduleOptions → List (Pick × Outcome) → List ℕ
-schedule_asked options steps = recorded_text (form_asked options) steps
+abbrev pub schedule_asked : Bool → ScheduleOptions → List (Pick × Outcome) → List ℕ
+schedule_asked drains options steps = recorded_text (form_asked drains options) steps

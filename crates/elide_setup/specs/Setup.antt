@@ -17,6 +17,7 @@ pub record IsSetup (file : ProgramFile) (settings : Settings) (setup : Setup) : 
   pub program : setup.program ≡ loaded file settings.memory setup.program.entries
   pub reads : setup.limits.read_lines ≡ settings.reads
   pub writes : setup.limits.write_lines ≡ settings.writes
+  pub stores : setup.limits.stores ≡ settings.stores
   pub parts : AreParts file settings.dumps.now settings.shows.now setup.parts
 
 -- the machine is that of the options and of the program that the content of FILE is read as

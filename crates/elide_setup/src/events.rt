@@ -9,10 +9,11 @@ ghost use Rattle.std.specs.Option.{option_copied};
 ghost use Rattle.elide_setup.specs.Events.{events_said, kind_said, kinds_more, kinds_said, names_in, one_in_said};
 ghost use Rattle.elide_setup.specs.Events.{pieces, rate_said, with_kind};
 ghost use Rattle.elide_setup.specs.Misuse.{IsMisuse};
+ghost use Rattle.tm_pick.specs.Kinds.{has_event};
 
 use crate::fault::Refusal;
 use elide_program::number_of;
-use tm_model::Interference;
+use tm_model::{Event, Interference};
 use tm_pick::{Events, Kinds};
 
 /// The most steps of which one comes under an event.
@@ -125,54 +126,59 @@ fn with_named(kinds: Kinds, name: &str) -> Option<Kinds>
 }
 
 // The kind of a name.
-fn kind_of(name: &str) -> Option<Interference>
+fn kind_of(name: &str) -> Option<Event>
     ensures { result ≡ kind_said name.now }
 {
     let name = name.as_bytes();
     if name == b"interrupt".as_slice() {
-        return Some(Interference::Interrupt);
+        return Some(Event::Abort(Interference::Interrupt));
     }
     if name == b"eviction".as_slice() {
-        return Some(Interference::Eviction);
+        return Some(Event::Abort(Interference::Eviction));
     }
     if name == b"snoop".as_slice() {
-        return Some(Interference::Snoop);
+        return Some(Event::Abort(Interference::Snoop));
+    }
+    if name == b"drain".as_slice() {
+        return Some(Event::Drain);
     }
     None
 }
 
 // These kinds and another one.
-fn with_kind(kinds: Kinds, by: Interference) -> Option<Kinds>
-    ensures { result ≡ with_kind kinds (Some by) }
+fn with_kind(kinds: Kinds, event: Event) -> Option<Kinds>
+    ensures { result ≡ with_kind kinds (Some event) }
 {
-    if kinds.contains(by) {
+    if has_event(kinds, event) {
         return None;
     }
-    let Kinds {
-        interrupt,
-        eviction,
-        snoop,
-        drain,
-    } = kinds;
-    match by {
-        Interference::Interrupt => Some(Kinds {
+    match event {
+        Event::Abort(Interference::Interrupt) => Some(Kinds {
             interrupt: true,
-            eviction,
-            snoop,
-            drain,
+            ..kinds
         }),
-        Interference::Eviction => Some(Kinds {
-            interrupt,
+        Event::Abort(Interference::Eviction) => Some(Kinds {
             eviction: true,
-            snoop,
-            drain,
+            ..kinds
         }),
-        Interference::Snoop => Some(Kinds {
-            interrupt,
-            eviction,
+        Event::Abort(Interference::Snoop) => Some(Kinds {
             snoop: true,
-            drain,
+            ..kinds
         }),
+        Event::Drain => Some(Kinds {
+            drain: true,
+            ..kinds
+        }),
+    }
+}
+
+// Whether an event is of these kinds.
+fn has_event(kinds: Kinds, event: Event) -> bool
+    ensures { result ≡ has_event kinds event }
+{
+    match event {
+        Event::Abort(by) => kinds.contains(by),
+        Event::Drain => kinds.drain,
     }
 }
 

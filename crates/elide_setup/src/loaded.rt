@@ -14,7 +14,7 @@ use crate::machine::{Setup, planned};
 use crate::plan::{Course, Plan};
 use elide_args::{MachineOptions, ScheduleOptions};
 use elide_places::{FileNames, Wants};
-use elide_program::{Form, Paths, ProgramFile, Settings, read_file};
+use elide_program::{Form, Paths, ProgramFile, Settings, has_store_buffer, read_file};
 use std::alloc::Global;
 
 /// A program that was read and loaded, and what else its file tells.
@@ -62,7 +62,7 @@ impl LoadedFile {
         ensures none { IfErr result (IsNotScheduled (P.content paths.old) machine.now schedule.now) }
     {
         let settings = Settings::read(machine)?;
-        let plan = Plan::read(alloc, schedule)?;
+        let plan = Plan::read(alloc, schedule, has_store_buffer(machine))?;
         let text = read_file(machine.file, paths)?;
         let file = ProgramFile::read(alloc, text.as_slice())?;
         let (setup, course) = planned(alloc, &settings, plan, &file, paths)?;

@@ -2,8 +2,8 @@
 //!
 //! [`planned`] goes in the order in which faults are told: the entries, what is printed of memory, the schedule's file,
 //! the loading. What comes before, from the options to the file, is `opened`'s. [`new_machine`] and [`new_board`] come
-//! last, and test the limits of transactions; only the latter tests that what is printed is in memory. No step is made
-//! here: that is `walk`.
+//! last, and test the limits of transactions and of pending stores; only the latter tests that what is printed is in
+//! memory. No step is made here: that is `walk`.
 
 ghost use Rattle.std.specs.Prelude.{◌≡◌, ◌≤◌, ℕ, [], IfErr, IfOk, List, length};
 ghost use Rattle.tm_model.specs.declared.outcome.Outcome.{Outcome};
@@ -37,7 +37,7 @@ use tm_hist::Board;
 pub struct Setup {
     /// The program, with its cores and memory size.
     pub program: Program,
-    /// How many lines a transaction can touch.
+    /// How many lines a transaction can touch, and how many stores of a core may be pending.
     pub limits: Limits,
     /// What is printed of memory.
     pub parts: MemoryParts,
@@ -84,11 +84,16 @@ impl Setup {
 }
 
 fn limits_of(settings: &Settings<'_>) -> Limits
-    ensures { result ≡ record { read_lines = settings.now.reads; write_lines = settings.now.writes } }
+    ensures { result ≡ record {
+      read_lines = settings.now.reads;
+      write_lines = settings.now.writes;
+      stores = settings.now.stores;
+    } }
 {
     Limits {
         read_lines: settings.reads,
         write_lines: settings.writes,
+        stores: settings.stores,
     }
 }
 

@@ -14,6 +14,7 @@
 ghost use Rattle.std.specs.Prelude.{◌≡◌, ℕ, IfErr, IfOk, List};
 ghost use Rattle.tm_model.specs.declared.outcome.Outcome.{Outcome};
 ghost use Rattle.tm_model.specs.declared.outcome.Pick.{Pick};
+ghost use Rattle.elide_program.specs.Settings.{has_store_buffer};
 ghost use Rattle.elide_setup.specs.Refused.{IsNotScheduled};
 ghost use Rattle.elide_setup.specs.Rounds.{IsAskedOut, IsOut};
 ghost use Rattle.elide_setup.specs.Schedules.{AreAsked, AreOf, form_asked, form_of};
@@ -52,7 +53,8 @@ impl Opened {
         ensures setup { IfOk result (λ r. IsAsked (P.content paths.old machine.now.file.now) machine.now r.setup) }
         ensures course { IfOk result (λ r. (picks : List Pick) → AreOf r.course picks →
             AreAsked (P.content paths.old) schedule.now picks) }
-        ensures listed { IfOk result (λ r. form_of r.course ≡ form_asked schedule.now) }
+        ensures listed { IfOk result (λ r. form_of r.course ≡
+            form_asked (has_store_buffer machine.now) schedule.now) }
         ensures out { IfOk result (λ r. (cores : ℕ) (steps : List (Pick × Outcome)) → IsOut r.course cores steps →
             IsAskedOut schedule.now cores steps) }
         ensures none { IfErr result (IsNotScheduled (P.content paths.old) machine.now schedule.now) }

@@ -7,7 +7,7 @@
 
 ghost use Rattle.std.specs.Prelude.{◌≡◌, ℕ, IfErr, IfOk, IfSome, List, MatchResult, None, Ok, OnOk, Option, Some};
 ghost use Rattle.std.specs.Prelude.{codes};
-ghost use Rattle.std.specs.Prelude.{is_some, true};
+ghost use Rattle.std.specs.Prelude.{◌||◌, is_some, true};
 ghost use Rattle.std.specs.Option.{option_copied};
 ghost use Rattle.elide_args.specs.declared.subcommand.ScheduleOptions.{ScheduleOptions};
 ghost use Rattle.elide_program.specs.Files.{Gives, most_bytes};
@@ -17,7 +17,7 @@ ghost use Rattle.tm_model.specs.declared.outcome.Pick.{Pick};
 ghost use Rattle.tm_pick.specs.Drawn.{AreDrawn};
 ghost use Rattle.tm_schedule.specs.Schedule.{schedule_of, steps_of};
 ghost use Rattle.elide_setup.specs.Drawing.{IsAskedDraw, IsCourseDraw, IsDrawn, IsEventSeed, IsSeed, SaysNoDraw};
-ghost use Rattle.elide_setup.specs.Drawing.{events_asked, limit_said, may_come};
+ghost use Rattle.elide_setup.specs.Drawing.{events_asked, limit_said, may_tell};
 ghost use Rattle.elide_setup.specs.Events.{events_said};
 ghost use Rattle.elide_setup.specs.Misuse.{IsMisuse};
 ghost use Rattle.elide_setup.specs.Refused.{HasNoCourse, HasNoSchedule, IsMisplanned, is_no_way, is_one_way, plan_path};
@@ -58,12 +58,16 @@ pub enum Course {
 
 impl<'a> Plan<'a> {
     /// Reads `--steps`, `--schedule`, `--in-turn` or `--random`, of which exactly one is given, and with the last two
-    /// `--events`, `--seed` and `--limit`.
-    pub fn read(alloc: Global, options: &ScheduleOptions<'a>) -> Result<Plan<'a>, Refusal>
+    /// `--events`, `--seed` and `--limit`. `drains` says whether stores may be pending on the machine.
+    pub fn read(
+        alloc: Global,
+        options: &ScheduleOptions<'a>,
+        drains: bool,
+    ) -> Result<Plan<'a>, Refusal>
         ensures steps { IfOk result (λ plan. (content : List ℕ → Option (List ℕ)) (picks : List Pick) →
             ArePlanned content plan picks → AreAsked content options.now picks) }
         ensures draw { IfOk result (IsAskedDraw options.now) }
-        ensures listed { IfOk result (λ plan. plan_form plan ≡ form_asked options.now) }
+        ensures listed { IfOk result (λ plan. plan_form plan ≡ form_asked drains options.now) }
         ensures path { IfOk result (λ plan. IfSome (plan_path plan) (λ path. options.now.path ≡ Some path)) }
         ensures out { IfOk result (λ plan. (cores : ℕ) (steps : List (Pick × Outcome)) → IsPlannedOut plan cores steps →
             IsAskedOut options.now cores steps) }
@@ -79,7 +83,7 @@ impl<'a> Plan<'a> {
                 check_listed(options)?;
                 Ok(Plan::File(path))
             }
-            (None, None) => Ok(Plan::Drawn(Drawn::read(options)?)),
+            (None, None) => Ok(Plan::Drawn(Drawn::read(options, drains)?)),
         }
     }
 
@@ -184,13 +188,15 @@ pub struct Drawn {
     pub event_seed: u32,
     /// The most steps, 1 or more.
     pub most: u32,
+    /// Whether stores may be pending, so that a step that waits is a drain.
+    pub drains: bool,
 }
 
 impl Drawn {
     // Reads `--random`, `--events`, `--seed` and `--limit`.
-    fn read(options: &ScheduleOptions<'_>) -> Result<Drawn, Refusal>
+    fn read(options: &ScheduleOptions<'_>, drains: bool) -> Result<Drawn, Refusal>
         ensures drawn { IfOk result (IsDrawn options.now) }
-        ensures form { IfOk result (λ drawn. may_come drawn.events ≡ is_some options.now.events) }
+        ensures form { IfOk result (λ drawn. may_tell drawn ≡ (is_some options.now.events || drains)) }
         ensures none { IfErr result (IsMisplanned options.now) }
     {
         let seed = seed_of(options.random)?;
@@ -202,15 +208,16 @@ impl Drawn {
             events,
             event_seed,
             most,
+            drains,
         })
     }
 
-    /// Whether some step may come under an event.
-    pub fn may_come(self) -> bool
-        ensures { result ≡ may_come self.events }
+    /// Whether some step may tell of an event: it may come under one, or be a drain.
+    pub fn may_tell(self) -> bool
+        ensures { result ≡ may_tell self }
     {
         match self.events {
-            Events::Never => false,
+            Events::Never => self.drains,
             Events::Rate { .. } | Events::Draw => true,
         }
     }

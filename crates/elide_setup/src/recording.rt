@@ -10,7 +10,7 @@ ghost use Rattle.tm_model.specs.declared.outcome.Outcome.{Outcome};
 ghost use Rattle.tm_model.specs.declared.outcome.Pick.{Pick};
 ghost use Rattle.tm_schedule.specs.Schedule.{drawn_text};
 ghost use Rattle.tm_schedule.specs.ScheduleWriting.{left_text};
-ghost use Rattle.elide_setup.specs.Drawing.{AreUnder, may_come};
+ghost use Rattle.elide_setup.specs.Drawing.{AreUnder, may_tell};
 ghost use Rattle.elide_setup.specs.Recorded.{IsRecorded};
 ghost use Rattle.elide_setup.specs.Refused.{IsNextDrawn, IsStepRefused, IsUnrecorded};
 ghost use Rattle.elide_setup.specs.Rounds.{IsDrawnOut};
@@ -44,7 +44,7 @@ pub fn walk_written<S: StepMaker, P: Paths, G: Progress>(
         ⊎ IsUnrecorded path.entry why) }
     ensures walked { IfOk result (λ _. (steps : List (Pick × Outcome)) × AreUnder drawn.events (picks_made steps)
         × Leads S.takes maker.old steps maker.new
-        × IsRecorded (P.content paths.new) path.entry (drawn_text (may_come drawn.events) (picks_told steps))
+        × IsRecorded (P.content paths.new) path.entry (drawn_text (may_tell drawn) (picks_told steps))
         × IsDrawnOut (not (is_some drawn.seed)) cores drawn.most steps) }
 {
     match path {
@@ -67,7 +67,7 @@ fn walk_to_file<S: StepMaker, P: Paths, G: Progress>(
         ⊎ (why ≡ refusal.Fault fault.Output)) }
     ensures walked { IfOk result (λ _. (steps : List (Pick × Outcome)) × AreUnder drawn.events (picks_made steps)
         × Leads S.takes maker.old steps maker.new
-        × IfSome (P.content paths.new path.now) (λ held. held ≡ drawn_text (may_come drawn.events) (picks_told steps))
+        × IfSome (P.content paths.new path.now) (λ held. held ≡ drawn_text (may_tell drawn) (picks_told steps))
         × IsDrawnOut (not (is_some drawn.seed)) cores drawn.most steps) }
 {
     let mut text = DrawnText {
@@ -108,7 +108,7 @@ impl<S: StepMaker, G: Progress> Text for DrawnText<'_, '_, S, G> {
         × (after.refused ≡ before.refused)
         × (steps : List (Pick × Outcome)) × AreUnder before.drawn.events (picks_made steps)
         × Leads S.takes before.maker.now steps after.maker.now
-        × (bytes ≡ drawn_text (may_come before.drawn.events) (picks_told steps))
+        × (bytes ≡ drawn_text (may_tell before.drawn) (picks_told steps))
         × IsDrawnOut (not (is_some before.drawn.seed)) before.cores before.drawn.most steps };
 
     ghost keeps = { λ text. text.cores ≤ 64 };
@@ -120,7 +120,7 @@ impl<S: StepMaker, G: Progress> Text for DrawnText<'_, '_, S, G> {
 
     fn write_to<O: Out + Drop>(&mut self, out: O) -> Result<O, WriteFault> {
         let mut page = Gathered::new(out);
-        let writer = ScheduleWriter::begin(self.drawn.may_come(), &mut page)?;
+        let writer = ScheduleWriter::begin(self.drawn.may_tell(), &mut page)?;
         let mut recorder = Recorder { writer, page };
         match walk_drawn(
             self.drawn,

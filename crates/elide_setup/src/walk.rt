@@ -88,10 +88,15 @@ impl StepMaker for Machine {
         }
     }
 
-    // One call, in which a step costs a third of what it costs by itself.
+    // One call, in which a step costs a third of what it costs by itself. Where stores may be pending, one step: of
+    // those of that call it is not told which were drains that came by themselves.
     fn make_run(&mut self, core: u8, most: u32) -> Result<u32, Refusal> {
-        self.nothing_pending();
-        told(self.steps_alone(core, most))
+        if self.stores() == 0 {
+            self.nothing_pending();
+            return told(self.steps_alone(core, most));
+        }
+        self.make_step(Pick { core, event: None })?;
+        Ok(1)
     }
 }
 
@@ -109,7 +114,8 @@ impl StepMaker for Board {
         Ok(outcome)
     }
 
-    // Several at once, whole transactions too; the idle step of a core that has stopped, and a refusal, one by one.
+    // Several at once, whole transactions too; the idle step of a core that has stopped, and a refusal, one by one, and
+    // so where stores may be pending.
     fn make_run(&mut self, core: u8, most: u32) -> Result<u32, Refusal> {
         let made = board_steps(self, core, most);
         if made > 0 {
@@ -120,8 +126,8 @@ impl StepMaker for Board {
     }
 }
 
-// Up to so many steps of a core side by side, under no event. None, where there is no such core, or where it has
-// stopped or the history is full.
+// Up to so many steps of a core side by side, under no event. None, where there is no such core, where stores may be
+// pending, or where it has stopped or the history is full.
 fn board_steps(board: &mut Board, core: u8, most: u32) -> u32
     ensures steps { (steps : List (Pick × Outcome)) × (picks_made steps ≡ replicate result (lone_pick core))
         × AreBoardSteps board.old steps board.new }
@@ -130,6 +136,9 @@ fn board_steps(board: &mut Board, core: u8, most: u32) -> u32
     // As in `make_step`, before the steps and behind them.
     board.is_run();
     if core >= board.cores() {
+        return 0;
+    }
+    if board.limits().stores > 0 {
         return 0;
     }
     let made = board.steps(core, most);
@@ -282,7 +291,7 @@ impl Course {
     {
         match self {
             Course::Listed(steps) => record(path, steps.as_slice(), paths),
-            Course::Drawn(drawn) => record_drawn(path, drawn.may_come(), kept, paths),
+            Course::Drawn(drawn) => record_drawn(path, drawn.may_tell(), kept, paths),
         }
     }
 }

@@ -21,7 +21,8 @@ machine_text machine =
     ++ (option_text (codes " --mem ") (codes "65536") machine.memory
     ++ (option_text (codes " --entry ") [] machine.entry
     ++ (option_text (codes " --reads ") (codes "512") machine.reads
-    ++ option_text (codes " --writes ") (codes "512") machine.writes)))
+    ++ (option_text (codes " --writes ") (codes "512") machine.writes
+    ++ option_text (codes " --store-buffer ") (codes "0") machine.store_buffer))))
 
 -- the words of the steps, with spaces between
 abbrev pub steps_text : List Pick → List ℕ

@@ -16,7 +16,8 @@ pub fn put_machine<O: Out>(machine: &MachineOptions<'_>, out: &mut O) -> Result<
     put_option(" --mem ", machine.memory, "65536", out)?;
     put_option(" --entry ", machine.entry, "", out)?;
     put_option(" --reads ", machine.reads, "512", out)?;
-    put_option(" --writes ", machine.writes, "512", out)
+    put_option(" --writes ", machine.writes, "512", out)?;
+    put_option(" --store-buffer ", machine.store_buffer, "0", out)
 }
 
 /// Writes an option where its value is given, and not the usual one. Its name has the spaces around it.

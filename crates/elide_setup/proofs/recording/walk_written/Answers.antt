@@ -6,7 +6,7 @@ use Rattle.tm_model.specs.declared.outcome.Outcome.{Outcome}
 use Rattle.tm_model.specs.declared.outcome.Pick.{Pick}
 use Rattle.tm_schedule.specs.Schedule.{drawn_text}
 use Rattle.elide_setup.proofs.StepsKept.{never_fails, with_other}
-use Rattle.elide_setup.specs.Drawing.{AreUnder, may_come}
+use Rattle.elide_setup.specs.Drawing.{AreUnder, may_tell}
 use Rattle.elide_setup.specs.Recorded.{IsRecorded}
 use Rattle.elide_setup.specs.Refused.{IsNextDrawn, IsStepRefused, IsUnrecorded}
 use Rattle.elide_setup.specs.Rounds.{IsDrawnOut}
@@ -31,10 +31,10 @@ returns-in-None-clause-walked g c =
     (λ (steps : List (Pick × Outcome)). Leads g.S.StepMaker.takes c.args.maker.now steps c.walk_drawn.new.maker)
     (λ (steps : List (Pick × Outcome)). IsDrawnOut (not (is_some drawn.seed)) c.args.cores drawn.most steps)
     (λ (steps : List (Pick × Outcome)). IsRecorded content c.args.path
-    (drawn_text (may_come drawn.events) (picks_told steps)))
+    (drawn_text (may_tell drawn) (picks_told steps)))
     c.walk_drawn.result
     (λ steps. subst
-    (λ (path : Option (Bor (List ℕ))). IsRecorded content path (drawn_text (may_come drawn.events) (picks_told steps)))
+    (λ (path : Option (Bor (List ℕ))). IsRecorded content path (drawn_text (may_tell drawn) (picks_told steps)))
     (sym c.in-None.is) tt)
     c.walk_drawn.ensures.walked
 
@@ -61,16 +61,16 @@ returns-in-Some-clause-walked g c =
     λ steps. IsDrawnOut (not (is_some drawn.seed)) c.args.cores drawn.most steps in
     IfOk-weaker c.walk_to_file.result
     (λ _. (steps : List (Pick × Outcome)) × AreUnder drawn.events (picks_made steps) × Made steps
-    × IfSome (content c.in-Some.path.now) (λ held. held ≡ drawn_text (may_come drawn.events) (picks_told steps))
+    × IfSome (content c.in-Some.path.now) (λ held. held ≡ drawn_text (may_tell drawn) (picks_told steps))
     × Out steps)
     (λ _. (steps : List (Pick × Outcome)) × AreUnder drawn.events (picks_made steps) × Made steps
-    × IsRecorded content c.args.path (drawn_text (may_come drawn.events) (picks_told steps)) × Out steps)
+    × IsRecorded content c.args.path (drawn_text (may_tell drawn) (picks_told steps)) × Out steps)
     (λ _ h. (
       h.0,
       h.1,
       h.2,
       subst (λ (path : Option (Bor (List ℕ))). IsRecorded content path
-          (drawn_text (may_come drawn.events) (picks_told h.0))) (sym c.in-Some.is) h.3,
+          (drawn_text (may_tell drawn) (picks_told h.0))) (sym c.in-Some.is) h.3,
       h.4,
     ))
     c.walk_to_file.ensures.walked

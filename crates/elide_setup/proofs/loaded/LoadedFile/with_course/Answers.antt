@@ -1,4 +1,4 @@
-use Rattle.std.proofs.Common.{◌∙◌, ℕ, List, refl, subst, sym}
+use Rattle.std.proofs.Common.{◌∙◌, ℕ, Bool, List, ap, refl, subst, sym}
 use Rattle.std.proofs.lemmas.Result.{err_from_is_err_and}
 use Rattle.elide_program.specs.Files.{Gives, most_bytes}
 use Rattle.elide_program.specs.ProgramFile.{IsFile}
@@ -6,6 +6,7 @@ use Rattle.elide_program.specs.Refusals.{no_room}
 use Rattle.elide_setup.proofs.Refusing.{not_scheduled}
 use Rattle.elide_setup.proofs.Schedules.{planned_before}
 use Rattle.elide_setup.specs.Refused.{misplanned, misread, no_parts, no_program, no_setup, not_loaded, not_read}
+use Rattle.elide_setup.specs.Schedules.{form_asked}
 use Rattle.elide_setup.proofs.loaded.LoadedFile.with_course.Goals as goal
 
 pub returns-clause-loaded : goal.returns-clause-loaded
@@ -29,7 +30,8 @@ returns-clause-loaded g c =
           (planned_before before (g.P.Paths.content c.read_file.new.paths) c.in_ok-plan.plan picks
           c.read_file.ensures.kept (c.in_ok-setup.ensures.course picks are));
       draw = c.in_ok-setup.ensures.draw c.args.schedule.now c.in_ok-plan.ensures.draw;
-      listed = c.in_ok-setup.ensures.listed ∙ c.in_ok-plan.ensures.listed;
+      listed = c.in_ok-setup.ensures.listed ∙ c.in_ok-plan.ensures.listed
+          ∙ ap (λ (drains : Bool). form_asked drains c.args.schedule.now) c.has_store_buffer.ensures;
       out = λ cores steps out. c.in_ok-plan.ensures.out cores steps (c.in_ok-setup.ensures.out cores steps out);
     }
 

@@ -1,3 +1,4 @@
+use Rattle.std.proofs.Common.{◌||◌, Bool, ap}
 use Rattle.std.proofs.lemmas.Result.{err_from_is_err_and}
 use Rattle.elide_setup.proofs.Forms.{asked_come}
 use Rattle.elide_setup.specs.Refused.{bad_events, bad_random}
@@ -16,4 +17,6 @@ returns-in_err-events-clause-none c =
     rw (p.1, p.2) (bad_events h.0 h.1 h.2 h.3)
 
 pub returns-clause-form : goal.returns-clause-form
-returns-clause-form c = asked_come c.args.options.now.events c.in_ok-events.events c.in_ok-events.ensures.events
+returns-clause-form c =
+    ap (λ (comes : Bool). comes || c.args.drains)
+    (asked_come c.args.options.now.events c.in_ok-events.events c.in_ok-events.ensures.events)
