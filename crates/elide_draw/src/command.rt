@@ -21,7 +21,7 @@ use crate::scene::ProgramScene;
 use elide_args::DrawOptions;
 use elide_device::{Gathered, Lent, Progress};
 use elide_places::{Places, Wants};
-use elide_program::{Paths, Settings, name_of, read_file};
+use elide_program::{Paths, Settings, has_store_buffer, name_of, read_file};
 use elide_setup::{Course, Extent, LoadedFile, Plan, Refusal, Setup, record_path};
 use std::alloc::Global;
 use text_out::Out;
@@ -62,7 +62,8 @@ pub fn draw<P: Paths, O: Out, G: Progress>(
 {
     let path = record_path(options.record, options.machine.file, paths)?;
     let settings = Settings::read(&options.machine)?;
-    let plan = Plan::read(alloc, &options.schedule)?;
+    let drains = has_store_buffer(&options.machine);
+    let plan = Plan::read(alloc, &options.schedule, drains)?;
     match Asked::read(options, settings, path) {
         Ok(asked) => draw_plan(alloc, plan, &asked, paths, out, progress),
         Err(refusal) => Err(refusal),

@@ -1,8 +1,9 @@
 //! A step, and whom it hits: a machine whose steps a timeline is told.
 //!
 //! [`Watcher`] asks the machine before the step what is told of it, by one preview, and only where the picture shows
-//! steps or lines. Behind the step the timeline is told the hits, then the step, what it did, and last the variables: a
-//! hit is of transactions that were open before. Which part is drawn, and how, is the timeline's.
+//! steps or lines; and whom a drain in its place would hit, where a store is pending. Behind the step the timeline is
+//! told the hits, then the step, what it did, and last the variables: a hit is of transactions that were open before.
+//! Which part is drawn, and how, is the timeline's.
 
 ghost use Rattle.std.specs.Prelude.{◌≡◌, ◌∷◌, [], IfOk, OnOk};
 ghost use Rattle.elide_draw.specs.Told.{AreTold};
@@ -73,9 +74,15 @@ fn watch_step<S: Scene>(
 {
     let core = pick.core;
     let asked = ask(machine, core, timeline, scene);
+    // A row of its own, as few steps have one.
+    let drains = drain_hits_of(machine, core, timeline);
     let outcome = machine.make_step(pick)?;
+    let hits = match outcome {
+        Outcome::Drained => &drains,
+        _ => &asked.hits,
+    };
     // Before the step is told: the timeline still has the transactions that were open before it.
-    tell_hits(machine, core, &asked.hits, timeline)?;
+    tell_hits(machine, core, hits, timeline)?;
     let step = MadeStep {
         pick,
         outcome,
@@ -263,6 +270,19 @@ fn hits_of(machine: &Machine, preview: &Preview) -> Option<Hits>
     let mut hits = [None; 64];
     for victim in 0..machine.cores() {
         hits[usize::from(victim)] = machine.hit_by(preview, victim).unwrap();
+    }
+    Some(hits)
+}
+
+// How the oldest pending store of a core hits each core, if it reaches memory now. None where none is pending, and
+// where no line is shown.
+fn drain_hits_of(machine: &Machine, core: u8, timeline: &Timeline) -> Option<Hits> {
+    if !timeline.shows_lines() || machine.pending(core).unwrap_or(&[]).is_empty() {
+        return None;
+    }
+    let mut hits = [None; 64];
+    for victim in 0..machine.cores() {
+        hits[usize::from(victim)] = machine.hit_by_drain(core, victim).unwrap_or(None);
     }
     Some(hits)
 }

@@ -9,9 +9,11 @@ use Rattle.serde_json.specs.Data.{Members, boolean, member, string}
 use Rattle.serde_json.specs.Written.{has_float, items_have_float, members_have_float}
 use Rattle.tm_core.specs.Theorem.{ShownMachine as Machine, view_at}
 use Rattle.tm_hist.specs.Lines.{status_of}
+use Rattle.tm_model.specs.State.{Pending}
 use Rattle.tm_model.specs.declared.outcome.CoreState.{CoreState}
 use Rattle.tm_model.specs.declared.outcome.Outcome.{Outcome}
-use Rattle.elide_json.specs.Cores.{core_object, core_value, cores_value, flag_names}
+use Rattle.elide_json.specs.Cores.{core_object, core_value, cores_value, flag_names, store_value, stores_members}
+use Rattle.elide_json.specs.Cores.{stores_told}
 use Rattle.elide_json.specs.Memory.{dump_row, show_row}
 use Rattle.elide_json.specs.Objects.{running_value, status_member}
 use Rattle.elide_json.specs.Outcomes.{outcome_value}
@@ -39,17 +41,24 @@ no_float_outcome step core outcome =
     (no_float_both (has_float (text_or_null (outcome_event outcome))) false
     (no_float_word (outcome_event outcome)) refl))
 
-pub no_float_core : (core : ℕ) (state : CoreState) (regs : Regs) → has_float (core_object core state regs) ≡ false
+no_float_stores : (stores : Option Pending) → members_have_float (stores_members stores) ≡ false
+no_float_stores None = refl
+no_float_stores (Some pending) =
+    no_float_both (items_have_float (items_of store_value pending)) false
+    (no_float_items store_value (λ store. refl) pending) refl
+
+pub no_float_core : (core : ℕ) (state : CoreState) (regs : Regs) (stores : Option Pending) →
+    has_float (core_object core state regs stores) ≡ false
 unfolding core_object
-no_float_core core state regs =
+no_float_core core state regs stores =
     no_float_both (has_float (text_or_null (state_stop state))) _ (no_float_word (state_stop state))
-    (no_float_both (items_have_float (items_of string (flag_names regs.flags))) false
-    (no_float_items string (λ name. refl) (flag_names regs.flags)) refl)
+    (no_float_both (items_have_float (items_of string (flag_names regs.flags))) _
+    (no_float_items string (λ name. refl) (flag_names regs.flags)) (no_float_stores stores))
 
 no_float_cores : (machine : Machine) → has_float (cores_value machine) ≡ false
 no_float_cores machine =
     no_float_items (core_value machine)
-    (λ core. no_float_core core (view_at machine core).mode (view_at machine core).regs)
+    (λ core. no_float_core core (view_at machine core).mode (view_at machine core).regs (stores_told machine core))
     (range_with_len 0 (length machine.views))
 
 no_float_running : (running : Option (List ℕ)) → has_float (running_value running) ≡ false

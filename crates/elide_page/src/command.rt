@@ -12,7 +12,7 @@ use crate::output::{write_page, write_page_to};
 use elide_args::PageOptions;
 use elide_device::Progress;
 use elide_places::Wants;
-use elide_program::{Paths, Settings, name_of, read_file};
+use elide_program::{Paths, Settings, has_store_buffer, name_of, read_file};
 use elide_setup::{Course, LoadedFile, Plan, Refusal};
 use page_program::{Loaded, Sources};
 use page_run::{Stretch, Survey, Window, surveyed};
@@ -82,7 +82,8 @@ fn page_asked<P: Paths, O: Out + Drop, G: Progress>(
 ) -> Result<O, Refusal> {
     let options = request.options;
     let settings = Settings::read(&options.machine)?;
-    let plan = Plan::read(request.alloc, &options.schedule)?;
+    let drains = has_store_buffer(&options.machine);
+    let plan = Plan::read(request.alloc, &options.schedule, drains)?;
     let text = read_file(options.machine.file, paths)?;
     let given = Given {
         settings: &settings,

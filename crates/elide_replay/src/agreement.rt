@@ -1,7 +1,7 @@
 //! Whether a board's machine and a serial run ended alike.
 //!
-//! [`agreement_of`] compares memory, then that there are as many cores, then of each its registers, its stop and that
-//! no store is pending. It takes no agreement for granted: that a board's own history always agrees is proved of
+//! [`agreement_of`] compares memory, then that there are as many cores, then of each its registers, its stop and its
+//! stores that are pending. It takes no agreement for granted: that a board's own history always agrees is proved of
 //! `tm_hist`. Nothing is printed, and no step is made.
 
 ghost use Rattle.std.specs.Prelude.{◌≡◌, ◌↔◌, ◌<◌, IsTrue, length};
@@ -118,16 +118,23 @@ fn has_stop_of(machine: &Machine, serial: &Serial, core: u8) -> bool
     }
 }
 
-// Of a machine's core no store is pending.
+// Whether the same stores of a core are pending.
 fn has_pending_of(machine: &Machine, serial: &Serial, core: u8) -> bool
     requires { core < length machine.now.views }
     ensures { IsTrue result ↔ SamePending machine.now serial.now core }
 {
-    machine.nothing_pending();
-    match serial.pending(core) {
-        Ok(stores) => stores.is_empty(),
-        Err(_) => false,
+    let (Ok(shown), Ok(stores)) = (machine.pending(core), serial.pending(core)) else {
+        return false;
+    };
+    if stores.len() != shown.len() {
+        return false;
     }
+    for index in 0..stores.len() {
+        if stores[index] != shown[index] {
+            return false;
+        }
+    }
+    true
 }
 
 // Why a core that the machine has stopped, where it has.

@@ -6,6 +6,7 @@ use Rattle.text_out.specs.Writing.{Device}
 use Rattle.elide_args.specs.declared.subcommand.RunOptions.{RunOptions}
 use Rattle.elide_setup.proofs.Records.{recorded_asked}
 use Rattle.elide_setup.proofs.Schedules.{asked_before}
+use Rattle.elide_program.specs.Settings.{has_store_buffer}
 use Rattle.elide_setup.specs.Recorded.{IsRecorded}
 use Rattle.elide_setup.specs.Rounds.{IsAskedOut, IsOut}
 use Rattle.elide_setup.specs.Runs.{IsRunOf}
@@ -25,7 +26,7 @@ abbrev pub run_of_options : (content after left : List ℕ → Option (List ℕ)
     → ((other : List ℕ) → after other ≡ content other)
     → IsAsked (after options.machine.file.now) options.machine opened.setup
     → ((picks : List Pick) → AreOf opened.course picks → AreAsked after options.schedule picks)
-    → form_of opened.course ≡ form_asked options.schedule
+    → form_of opened.course ≡ form_asked (has_store_buffer options.machine) options.schedule
     → ((cores : ℕ) (steps : List (Pick × Outcome)) → IsOut opened.course cores steps
     → IsAskedOut options.schedule cores steps)
     → path ≡ options.record → AreOf opened.course (picks_made made)
@@ -42,7 +43,8 @@ run_of_options content after left options opened path machine made kept asked co
       steps = asked_before content after options.schedule (picks_made made) kept (course (picks_made made) steps);
       ran = ran;
       out = all (length opened.setup.program.entries) made out;
-      recorded = recorded_asked left options.record options.schedule opened.course made listed steps
+      recorded = recorded_asked left options.record (has_store_buffer options.machine) options.schedule opened.course
+          made listed steps
           (subst (λ (path : Option (Bor (List ℕ))). IsRecorded left path
           (schedule_made opened.course (picks_told made))) given recorded);
     }

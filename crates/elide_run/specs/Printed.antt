@@ -5,6 +5,7 @@ use Rattle.std.specs.Borrow.{Bor}
 use Rattle.std.specs.Io.KnownBytes.{Appends}
 use Rattle.std.specs.List.{flat_map}
 use Rattle.elide_args.specs.declared.subcommand.RunOptions.{RunOptions}
+use Rattle.elide_program.specs.Settings.{has_store_buffer}
 use Rattle.elide_setup.specs.Recorded.{IsRecorded}
 use Rattle.elide_setup.specs.Rounds.{IsAskedOut, IsOut}
 use Rattle.elide_setup.specs.Runs.{IsRunOf}
@@ -70,7 +71,8 @@ pub record IsRunOfOptions (content left : List ℕ → Option (List ℕ)) (optio
   pub steps : AreAsked content options.schedule (picks_made made)
   pub ran : IsRunOf setup.program setup.limits made machine
   pub out : IsAskedOut options.schedule (length setup.program.entries) made
-  pub recorded : IsRecorded left options.record (schedule_asked options.schedule made)
+  pub recorded :
+      IsRecorded left options.record (schedule_asked (has_store_buffer options.machine) options.schedule made)
 
 -- it is so, and the lines of its steps were written; those that tell instructions, or why transactions aborted, are any
 pub record IsRunAsAsked (content left : List ℕ → Option (List ℕ)) (options : RunOptions) (setup : Setup)

@@ -1,14 +1,15 @@
 -- The board that a session begins with, and the plan that it goes along (docs/FORMATS.md, "Debugger").
-use Rattle.std.specs.Prelude.{◌≡◌, ℕ, Bool, true, false, not, ◌||◌, List, [], Option, Some, is_some, length, min}
+use Rattle.std.specs.Prelude.{◌≡◌, ◌⊎◌, ℕ, Bool, true, false, not, ◌||◌, List, [], Option, Some, IfSome, is_some}
+use Rattle.std.specs.Prelude.{length, min}
 use Rattle.std.specs.Option.{option_copied}
 use Rattle.symbols.specs.declared.symbol.Symbol.{Symbol}
 use Rattle.elide_args.specs.declared.subcommand.MachineOptions.{MachineOptions}
 use Rattle.elide_args.specs.declared.subcommand.ScheduleOptions.{ScheduleOptions}
-use Rattle.elide_setup.specs.Drawing.{limit_said}
+use Rattle.elide_setup.specs.Drawing.{AreUnder, events_asked, limit_said}
 use Rattle.ia_image.specs.Program.{ProgramValue as Program}
-use Rattle.elide_setup.specs.Rounds.{IsDrawnOut}
+use Rattle.elide_setup.specs.Rounds.{IsDrawnOut, IsOut}
 use Rattle.elide_setup.specs.Runs.{IsRunOf}
-use Rattle.elide_setup.specs.Schedules.{AreAsked, are_listed, picks_told}
+use Rattle.elide_setup.specs.Schedules.{AreAsked, AreOf, are_listed, picks_made, picks_told}
 use Rattle.elide_setup.specs.Setup.{IsAsked}
 use Rattle.tm_core.specs.declared.limits.Limits.{Limits}
 use Rattle.tm_core.specs.Theorem.{ShownMachine as Machine}
@@ -48,11 +49,17 @@ abbrev pub limited_course : Course → Course
 limited_course (course.Listed listed) = course.Listed listed
 limited_course (course.Drawn drawn) = course.Drawn (record drawn { most = min drawn.most most_drawn })
 
--- these steps are drawn as the options ask, to the end or until there are so many
+-- these steps are drawn as the options ask, each under an event that may be drawn, to the end or until there are so
+-- many
 abbrev pub IsLimitedOut : ScheduleOptions → ℕ → List (Pick × Outcome) → Type 0
 IsLimitedOut options cores steps =
     (most : ℕ) × (limit_said (option_copied options.limit) ≡ Some most)
     × IsDrawnOut (not (is_some options.random)) cores (min most most_drawn) steps
+    × IfSome (events_asked (option_copied options.events)) (λ events. AreUnder events (picks_made steps))
+
+-- the same of steps of a course that is drawn
+abbrev pub IsOutUnder : Course → ℕ → List (Pick × Outcome) → Type 0
+IsOutUnder asked cores steps = IsOut asked cores steps × AreOf asked (picks_made steps)
 
 -- the picks are those that the outcomes of a run from the program's first state tell, whose steps end so
 pub record AreDrawn (program : Program) (limits : Limits) (ends : ℕ → List (Pick × Outcome) → Type 0)
@@ -64,10 +71,12 @@ pub record AreDrawn (program : Program) (limits : Limits) (ends : ℕ → List (
   pub told : picks ≡ picks_told steps
 
 -- the picks are those of the schedule that the options ask for, where they are drawn those of a run of the board's
--- program, and there are none where they ask for none
+-- program, and there are none where they ask for none; where stores may be pending, those of a run tell of the drains
+-- that steps waited for, too
 pub record IsPlan (content : List ℕ → Option (List ℕ)) (options : ScheduleOptions) (board : Board) (picks : List Pick)
     : Type 0 where
-  pub asked : is_scheduled options ≡ true → AreAsked content options picks
+  pub asked : is_scheduled options ≡ true → (are_listed options ≡ true) ⊎ (board.limits.stores ≡ 0) →
+      AreAsked content options picks
   pub drawn : is_scheduled options ≡ true → are_listed options ≡ false →
       AreDrawn board.program board.limits (IsLimitedOut options) picks
   pub unasked : is_scheduled options ≡ false → picks ≡ []

@@ -1,5 +1,5 @@
 -- The line of an abort with its reason (docs/FORMATS.md, "Why a transaction aborted").
-use Rattle.std.specs.Prelude.{ℕ, List, [], ◌++◌, codes, Option, Some, None}
+use Rattle.std.specs.Prelude.{ℕ, List, [], ◌++◌, codes, if◌then◌else◌, Option, Some, None}
 use Rattle.std.specs.Fmt.{decimal}
 use Rattle.ia_insn.specs.declared.op.Insn.{Insn}
 use Rattle.text_out.specs.Number.{eight_digits, hex_digits}
@@ -8,7 +8,7 @@ use Rattle.text_out.specs.TextLine.{line_end}
 use Rattle.tm_hist.specs.Lines.{stop_word}
 use Rattle.tm_sets.specs.declared.interface.Kind.{Kind}
 use Rattle.tm_sets.specs.declared.interface.Kind.TheVariants.{Read, Write}
-use Rattle.tm_why.specs.Lines.{begun_words, use_word}
+use Rattle.tm_why.specs.Lines.{begun_words, hit_word}
 use Rattle.tm_why.specs.declared.reason.Reason.{Reason}
 use Rattle.tm_why.specs.declared.row.StandingHit.{StandingHit}
 use Rattle.tm_model.specs.declared.explain.AbortReason.{AbortReason}
@@ -25,11 +25,15 @@ abbrev pub insn_words : Option Insn → ℕ → List ℕ
 insn_words None at = []
 insn_words (Some insn) at = insn_text insn at
 
+-- where the instruction stands that hit; which one made a store that drained is not known
+abbrev pub place_words : StandingHit → Words → List ℕ
+place_words hit words = if hit.is_drain then [] else codes ", " ++ words.place.items ++ codes " "
+
 abbrev pub hit_words : Option StandingHit → Words → List ℕ
 hit_words None words = []
 hit_words (Some hit) words =
-    codes " " ++ line_text hit.hit.line words ++ use_word hit.hit.kind ++ decimal hit.step
-    ++ codes " by core " ++ decimal hit.core ++ codes ", " ++ words.place.items ++ codes " "
+    codes " " ++ line_text hit.hit.line words ++ hit_word hit ++ decimal hit.step
+    ++ codes " by core " ++ decimal hit.core ++ place_words hit words
 
 abbrev pub no_room_text : Kind → ℕ → Words → List ℕ
 no_room_text Read line words = codes "reads: no room for " ++ line_text line words

@@ -8,7 +8,7 @@ ghost use Rattle.std.specs.Prelude.{◌≡◌, ◌+◌, ◌≤◌, ◌++◌};
 ghost use Rattle.arrayvec.specs.ArrayVec.{array_vec_len};
 ghost use Rattle.text_out.specs.Writing.{Writes};
 ghost use Rattle.elide_why.specs.Lines.{abort_back, abort_front, abort_line, begun_told, cause_text};
-ghost use Rattle.elide_why.specs.Lines.{hit_words, line_text, no_room_text, outside_words};
+ghost use Rattle.elide_why.specs.Lines.{hit_words, line_text, no_room_text, outside_words, place_words};
 
 use crate::parts::write_parts;
 use crate::subset::{push_outside, push_symbols};
@@ -18,7 +18,7 @@ use text_out::{Out, WriteFault};
 use tm_hist::stop_text;
 use tm_model::AbortReason;
 use tm_sets::Kind;
-use tm_why::{Reason, StandingHit, push_begun, use_word};
+use tm_why::{Reason, StandingHit, hit_word, push_begun};
 
 /// Writes the outcome line of an abort with this status, and its reason behind it.
 ///
@@ -111,7 +111,7 @@ fn push_code(page: &mut Page, words: &Words<'_>)
     }
 }
 
-// Which line was hit, how, when, by whom, and where the instruction stands that did.
+// Which line was hit, how, when, by whom, and where the instruction stands that did, where that is known.
 fn push_hit(page: &mut Page, hit: Option<StandingHit>, words: &Words<'_>)
     requires { array_vec_len page.old + 1700 ≤ 4096 }
     ensures { page.new.items ≡ page.old.items ++ hit_words hit words.now }
@@ -121,10 +121,21 @@ fn push_hit(page: &mut Page, hit: Option<StandingHit>, words: &Words<'_>)
     };
     push(page, b" ");
     push_line(page, hit.hit.line, words);
-    push(page, use_word(hit.hit.kind));
+    push(page, hit_word(&hit));
     push_decimal(page, hit.step);
     push(page, b" by core ");
     push_decimal(page, u64::from(hit.core));
+    push_place(page, &hit, words);
+}
+
+// Where the instruction stands that hit. Which one made a store that drained is not known.
+fn push_place(page: &mut Page, hit: &StandingHit, words: &Words<'_>)
+    requires { array_vec_len page.old + 1200 ≤ 4096 }
+    ensures { page.new.items ≡ page.old.items ++ place_words hit.now words.now }
+{
+    if hit.is_drain {
+        return;
+    }
     push(page, b", ");
     push(page, words.place.as_slice());
     push(page, b" ");

@@ -125,11 +125,12 @@ fn outside_of<'a>(program: &'a Program, places: &Places, reason: &Reason) -> Opt
     }
 }
 
-// Whether a reason tells an instruction: the one that hit, or the one that no transaction may run.
+// Whether a reason tells an instruction: the one that hit, but for a store that drained, of which it is not known, or
+// the one that no transaction may run.
 fn tells_insn(reason: &Reason) -> bool {
-    match reason.cause {
-        AbortReason::Conflict => reason.transaction.hit.is_some(),
-        AbortReason::NotAllowed => true,
+    match (reason.cause, reason.transaction.hit) {
+        (AbortReason::Conflict, Some(hit)) => !hit.is_drain,
+        (AbortReason::NotAllowed, _) => true,
         _ => false,
     }
 }

@@ -224,19 +224,23 @@ all_none delta view core number address outcome old new is_core is_outcome kept 
 
 -- ---- steps
 
+-- the same where the machine has no store buffers
+abbrev pub IsKnownAlone : Machine → List KeptByte → Type 0
+IsKnownAlone machine bytes = machine.store_buffer ≡ 0 → IsKnown machine bytes
+
 pub told_step : (before after : Machine) (old new : List KeptByte) (told : ToldStep) →
-    IsMade before old told after new → IsKnown before old → IsStepTold before told after
+    IsMade before old told after new → IsKnownAlone before old → IsStepTold before told after
 told_step before after old new told made known = record {
   step = made.step;
   mode = made.mode;
-  told = made.told known.state known.doomed known.stands known.kept;
+  told = λ off. let k : IsKnown before old = known off in made.told off k.state k.doomed k.stands k.kept;
 }
 
-pub known_behind : (before after : Machine) (old new : List KeptByte) (told : ToldStep) →
-    IsMade before old told after new → IsKnown before old → IsKnown after new
-known_behind before after old new told made known =
+known_then : (before after : Machine) (old new : List KeptByte) (told : ToldStep) →
+    IsMade before old told after new → before.store_buffer ≡ 0 → IsKnown before old → IsKnown after new
+known_then before after old new told made off known =
     let is : IsTold before after told.pick.core told.outcome told.delta =
-    made.told known.state known.doomed known.stands known.kept in
+    made.told off known.state known.doomed known.stands known.kept in
     let takes = takes_step before after told.pick told.outcome made.step known.state known.doomed known.stands in
     let shows : Shows after (applied told.delta (page_of before)) =
     differences before after told.pick.core told.outcome told.delta is (page_of before) (shows_itself before) in
@@ -252,6 +256,14 @@ known_behind before after old new told made known =
           (known.kept core address (subst (λ n. core < n) made.step.same.cores within)
           (subst (λ n. IsAddress n address) size below));
     }
+
+pub known_behind : (before after : Machine) (old new : List KeptByte) (told : ToldStep) →
+    IsMade before old told after new → IsKnownAlone before old → IsKnownAlone after new
+known_behind before after old new told made known off =
+    let same : after.store_buffer ≡ before.store_buffer =
+    ap (λ (k : Setting). k.store_buffer) made.step.same.rules in
+    let none : before.store_buffer ≡ 0 = sym same ∙ off in
+    known_then before after old new told made none (known none)
 
 -- before the first step no transaction is open
 pub known_first : (program : Program) (limits : Limits) (machine : Machine) → IsRunOf program limits [] machine

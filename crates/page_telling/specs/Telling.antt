@@ -16,12 +16,14 @@ use Rattle.page_telling.specs.Kept.{AreAllKept, IsKeptBehind}
 use Rattle.page_telling.specs.Told.{ToldStep, line_text, made_of}
 use Rattle.page_telling.specs.declared.kept.KeptByte.{KeptByte}
 
--- what is known of a step that was made
+-- what is known of a step that was made; of what it comes to, where the machine has no store buffers
 pub record IsMade (before : Machine) (old : List KeptByte) (one : ToldStep) (after : Machine) (new : List KeptByte)
     : Type 0 where
   pub step : IsMachineStep before one.pick one.outcome after
   pub mode : (view_at before one.pick.core).mode ≡ one.before
-  pub told : (state : State) (doomed : ℕ → Option ℕ) → StandsFor before state doomed → AreAllKept before old →
+  pub told :
+      before.store_buffer ≡ 0 →
+      (state : State) (doomed : ℕ → Option ℕ) → StandsFor before state doomed → AreAllKept before old →
       IsTold before after one.pick.core one.outcome one.delta
   pub kept : IsKeptBehind one.outcome one.pick.core one.delta.stored.items old new
 

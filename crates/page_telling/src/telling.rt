@@ -5,7 +5,7 @@
 //! step or behind the one before it. A run that has another length than in the first pass is refused. Reasons are a
 //! pass of their own, in `elide_page`.
 
-ghost use Rattle.std.specs.Prelude.{◌≡◌, ◌+◌, ◌<◌, ◌≤◌, ◌≢◌, ◌⊎◌, ℕ, IfErr, IfOk, List, OnErr, OnOk, codes};
+ghost use Rattle.std.specs.Prelude.{◌≡◌, ◌+◌, ◌<◌, ◌≤◌, ◌≢◌, ◌⊎◌, ℕ, [], IfErr, IfOk, List, OnErr, OnOk, codes};
 ghost use Rattle.text_out.specs.Writing.{Wrote};
 ghost use Rattle.tm_page.specs.Applied.{is_listed};
 ghost use Rattle.tm_page.specs.Before.{IsBefore};
@@ -208,7 +208,7 @@ fn take_step(
         machine.new behind.new.kept.bytes.items) }
     ensures refused { IfErr result (λ why. IsNoCore machine.old pick why ⊎ IsAnyWant why) }
 {
-    machine.nothing_pending();
+    none_pending(machine);
     let state = state_of(machine, pick)?;
     let before = before_of(alloc, machine, pick.core)?;
     let outcome = machine.make_step(pick)?;
@@ -223,6 +223,16 @@ fn take_step(
         before: state,
         delta,
     })
+}
+
+// By this it is known that no store is pending of a machine without store buffers. What a step comes to is said of such
+// a one.
+fn none_pending(machine: &Machine)
+    ensures { machine.now.store_buffer ≡ 0 → machine.now.pending ≡ [] }
+{
+    if machine.stores() == 0 {
+        machine.nothing_pending();
+    }
 }
 
 // What the machine shows of a core that it has, before its step.

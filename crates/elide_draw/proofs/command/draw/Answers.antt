@@ -1,4 +1,4 @@
-use Rattle.std.proofs.Common.{◌≡◌, ◌∙◌, ℕ, List, Option, subst, sym}
+use Rattle.std.proofs.Common.{◌≡◌, ◌∙◌, ℕ, Bool, List, Option, subst, sym}
 use Rattle.std.proofs.lemmas.Result.{on_ok_weaker}
 use Rattle.std.specs.Borrow.{Bor}
 use Rattle.elide_setup.proofs.Made.{of_plan}
@@ -7,6 +7,7 @@ use Rattle.elide_program.specs.Settings.{AreSettings}
 use Rattle.elide_program.specs.declared.file.ProgramFile.{ProgramFile}
 use Rattle.elide_program.specs.declared.settings.Settings.{Settings}
 use Rattle.elide_setup.specs.Made.{HasRun, HasRunPlan}
+use Rattle.elide_setup.specs.Schedules.{form_asked, plan_form}
 use Rattle.elide_draw.proofs.command.draw.Goals as goal
 
 pub returns-in-Ok : goal.returns-in-Ok
@@ -32,5 +33,6 @@ returns-in-Ok g c =
     (subst (λ (file : Bor (List ℕ)). IsRead (next file.now) made.0) c.in-Ok.ensures.file made.2))
     said
     (λ picks. c.in_ok-plan.ensures.steps content picks)
-    c.in_ok-plan.ensures.listed made.4))
+    (subst (λ (drains : Bool). plan_form c.in_ok-plan.plan ≡ form_asked drains options.schedule)
+    c.has_store_buffer-drains.ensures c.in_ok-plan.ensures.listed) made.4))
     c.draw_plan.ensures

@@ -1,21 +1,20 @@
 use Rattle.std.proofs.lemmas.Result.{IfErr-weaker, IfOk-weaker}
 use Rattle.elide_setup.specs.Drawing.{AreUnder}
 use Rattle.elide_setup.specs.Refused.{IsNoCore, IsNoWalk}
-use Rattle.elide_setup.specs.Rounds.{IsOut}
 use Rattle.elide_setup.specs.Runs.{AreMachineSteps}
 use Rattle.elide_setup.specs.declared.plan.Course.TheVariants as course
 use Rattle.elide_session.proofs.Plans.{Walked, of_walk, plan_run, plan_under}
-use Rattle.elide_session.specs.Opened.{AreDrawn}
+use Rattle.elide_session.specs.Opened.{AreDrawn, IsOutUnder}
 use Rattle.elide_session.specs.Refused.{IsUndrawn}
 use Rattle.elide_session.proofs.opening.drawn_plan.Goals as goal
 
 pub returns-clause-under : goal.returns-clause-under
-returns-clause-under c =
+returns-clause-under c off =
     let drawn = c.args.drawn in
     let setup = c.args.setup.now in
     IfOk-weaker c.walk.result (λ kept. Walked drawn c.cores.result c.in_ok-machine.machine c.walk.new.maker kept.items)
     (λ plan. AreUnder drawn.events plan.items)
-    (λ kept h. plan_under drawn setup c.cores.result c.in_ok-machine.machine c.walk.new.maker kept.items
+    (λ kept h. plan_under drawn setup c.cores.result c.in_ok-machine.machine c.walk.new.maker kept.items off
     c.in_ok-machine.ensures.made h)
     c.walk.ensures.walked
 
@@ -24,7 +23,7 @@ returns-clause-run c =
     let drawn = c.args.drawn in
     let setup = c.args.setup.now in
     IfOk-weaker c.walk.result (λ kept. Walked drawn c.cores.result c.in_ok-machine.machine c.walk.new.maker kept.items)
-    (λ plan. AreDrawn setup.program setup.limits (IsOut (course.Drawn drawn)) plan.items)
+    (λ plan. AreDrawn setup.program setup.limits (IsOutUnder (course.Drawn drawn)) plan.items)
     (λ kept h. plan_run drawn setup c.cores.result c.in_ok-machine.machine c.walk.new.maker kept.items
     c.in_ok-machine.ensures.made c.cores.ensures.number h)
     c.walk.ensures.walked

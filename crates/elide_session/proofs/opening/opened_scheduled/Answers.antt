@@ -2,13 +2,13 @@ use Rattle.std.proofs.Common.{◌≡◌, ℕ, List, ap, refl, subst, sym, true}
 use Rattle.std.proofs.lemmas.Result.{err_from_is_err_and}
 use Rattle.std.specs.Prelude.{is_some}
 use Rattle.elide_places.specs.FileSymbols.{AreSymbolsOf}
+use Rattle.elide_program.specs.Settings.{has_store_buffer}
 use Rattle.elide_setup.specs.Refused.{NamesNoCore}
-use Rattle.elide_setup.specs.Rounds.{IsOut}
 use Rattle.elide_setup.specs.Schedules.{AreOf, form_of, listed_in}
 use Rattle.elide_setup.specs.declared.plan.Course.{Course}
 use Rattle.symbols.specs.declared.symbol.Symbol.{Symbol}
-use Rattle.elide_session.proofs.Plans.{drawn_for, limited_steps}
-use Rattle.elide_session.specs.Opened.{AreDrawn}
+use Rattle.elide_session.proofs.Plans.{drawn_for, limited_steps, none_drawn}
+use Rattle.elide_session.specs.Opened.{AreDrawn, IsOutUnder}
 use Rattle.elide_session.specs.Refused.{beyond, boardless, undrawn, unscheduled}
 use Rattle.elide_session.proofs.opening.opened_scheduled.Goals as goal
 
@@ -28,14 +28,23 @@ returns-clause-plan g c =
     let loaded = c.in_ok-loaded.ensures.loaded in
     let setup = c.in_ok-loaded.loaded.setup in
     let picks = c.in_ok-plan.plan.items in
+    let schedule = c.args.schedule.now in
+    let board = c.in_ok-board.board in
+    let asked = c.in_ok-loaded.course in
+    let drains = has_store_buffer c.args.machine.now in
+    let limited = c.limited-course.ensures in
     record {
-      asked = λ _. loaded.course picks
+      asked = λ _ which. loaded.course picks
           (limited_steps c.in_ok-loaded.course picks
-          (subst (λ (k : Course). AreOf k picks) c.limited-course.ensures c.in_ok-plan.ensures.picks));
-      drawn = λ _ unlisted. drawn_for c.args.schedule.now setup c.in_ok-board.board c.in_ok-loaded.course picks
-          c.in_ok-board.ensures.made loaded.draw loaded.listed
-          (subst (λ (k : Course). is_some (form_of k) ≡ true → AreDrawn setup.program setup.limits (IsOut k) picks)
-          c.limited-course.ensures c.in_ok-plan.ensures.drawn) unlisted;
+          (subst (λ (k : Course). AreOf k picks) limited
+          (c.in_ok-plan.ensures.picks
+          (subst (λ (k : Course). is_some (form_of k) ≡ true → setup.limits.stores ≡ 0) (sym limited)
+          (none_drawn drains schedule setup board asked c.in_ok-board.ensures.made loaded.listed which)))));
+      drawn = λ _ unlisted. drawn_for drains schedule setup board asked picks c.in_ok-board.ensures.made loaded.draw
+          loaded.listed
+          (subst
+          (λ (k : Course). is_some (form_of k) ≡ true → AreDrawn setup.program setup.limits (IsOutUnder k) picks)
+          limited c.in_ok-plan.ensures.drawn) unlisted;
       unasked = λ none. let some = c.requires in cc;
     }
 

@@ -5,7 +5,7 @@ use Rattle.text_out.specs.Writing.{Wrote}
 use Rattle.elide_setup.specs.Runs.{IsRunOf}
 use Rattle.tm_core.specs.Theorem.{ShownMachine as Machine}
 use Rattle.page_run.proofs.Refusing.{not_told_of}
-use Rattle.page_telling.proofs.Knowing.{IsKnown, known_first}
+use Rattle.page_telling.proofs.Knowing.{IsKnown, IsKnownAlone, known_first}
 use Rattle.page_telling.proofs.Lines.{HasTold, all_tell, has_told, lines_written}
 use Rattle.page_telling.specs.Telling.{Spot}
 use Rattle.page_telling.specs.Told.{AreLinesWritten}
@@ -29,8 +29,9 @@ returns-clause-written g c =
     let opened = c.open_first.new.self in
     let ended = c.walk.new.maker in
     let walked = c.in_ok-walk.ensures.walked in
-    let known : IsKnown opened.machine opened.behind.kept.bytes.items =
-    subst (λ (kept : List KeptByte). IsKnown opened.machine kept) (sym (c.open_first.ensures.kept ∙ c.new.ensures))
+    let known : IsKnownAlone opened.machine opened.behind.kept.bytes.items =
+    λ off. subst (λ (kept : List KeptByte). IsKnown opened.machine kept)
+    (sym (c.open_first.ensures.kept ∙ c.new.ensures))
     (subst (λ (m : Machine). IsKnown m []) (sym c.open_first.ensures.machine)
     (known_first program limits machine c.in_ok-machine.ensures.made)) in
     let opens : IsRunOf program limits [] opened.machine =
