@@ -1,5 +1,5 @@
 -- The text of a report in columns (docs/FORMATS.md, "Statistics"): each count stands behind its own name.
-use Rattle.std.specs.Prelude.{ℕ, Bool, List, ◌++◌, codes, if◌then◌else◌, string_bytes}
+use Rattle.std.specs.Prelude.{ℕ, ◌==◌, Bool, List, [], ◌++◌, codes, if◌then◌else◌, string_bytes}
 use Rattle.std.specs.Fmt.{decimal}
 use Rattle.std.specs.List.{flat_map}
 use Rattle.text_out.specs.TextLine.{line_end}
@@ -28,10 +28,18 @@ inner_text row =
     numbered (codes " committed ") row.committed ++ numbered (codes " aborted ") row.aborted
     ++ numbered (codes " open ") row.open
 
+-- the drains, where there was one
+unfoldable pub drains_text : ℕ → List ℕ
+drains_text drained = if drained == 0 then [] else numbered (codes " drained ") drained
+
+-- and those that neither are outside nor inside
+unfoldable pub rest_text : StepsRow → List ℕ
+rest_text row = numbered (codes " idle ") row.idle ++ drains_text row.drained
+
 abbrev pub steps_text : StepsRow → List ℕ
 steps_text row =
-    numbered (codes "steps ") row.all ++ numbered (codes " outside ") row.outside ++ inner_text row
-    ++ numbered (codes " idle ") row.idle ++ line_end
+    numbered (codes "steps ") row.all ++ numbered (codes " outside ") row.outside ++ inner_text row ++ rest_text row
+    ++ line_end
 
 -- the transactions of a place
 abbrev pub counts_text : PlaceRow → List ℕ

@@ -33,6 +33,7 @@ pub record AreStepsOf (counts : RunCounts) (row : StepsRow) : Type 0 where
   pub aborted : IsSum (sum_by lost_of_place counts.places.entries) row.aborted
   pub under_way : IsSum (sum counts.under_way) row.open
   pub idle : row.idle ≡ counts.idle
+  pub drained : row.drained ≡ counts.drained
 
 -- the row of a place's counts
 pub record IsPlaceRow (entry : ℕ × PlaceCounts) (row : PlaceRow) : Type 0 where

@@ -7,7 +7,8 @@
 ghost use Rattle.std.specs.Prelude.{◌≡◌, ℕ, List, OnOk};
 ghost use Rattle.std.specs.List.{flat_map};
 ghost use Rattle.text_out.specs.Writing.{Wrote};
-ghost use Rattle.elide_stats.specs.Columns.{columns_text, conflicts_text, counts_text, ending, inner_text, numbered};
+ghost use Rattle.elide_stats.specs.Columns.{columns_text, conflicts_text, counts_text, drains_text, ending, inner_text};
+ghost use Rattle.elide_stats.specs.Columns.{numbered, rest_text};
 ghost use Rattle.elide_stats.specs.Columns.{places_text, sharing_text, spread_text, symbols_text, transactions_text};
 ghost use Rattle.elide_stats.specs.Columns.{abort_text, hit_text, line_text, place_text, size_text, steps_text, worded};
 
@@ -96,13 +97,33 @@ impl PutRow for StepsRow {
         put_number(b"steps ", self.all, out)?;
         put_number(b" outside ", self.outside, out)?;
         self.put_inner(out)?;
-        put_number(b" idle ", self.idle, out)?;
+        self.put_rest(out)?;
         out.put(b"\n")?;
         Ok(())
     }
 }
 
+// Puts how many stores drained, where one did.
+#[tactic(auto, unfolding(crate::specs::Columns::drains_text))]
+fn put_drains<O: Out>(drained: u64, out: &mut O) -> Result<(), Failed>
+    ensures { OnOk result (Wrote (O.device out.old) (O.device out.new) (drains_text drained)) }
+{
+    if drained == 0 {
+        return Ok(());
+    }
+    put_number(b" drained ", drained, out)
+}
+
 impl StepsRow {
+    // Puts how many were of cores that had stopped, or drains.
+    #[tactic(auto, unfolding(crate::specs::Columns::rest_text))]
+    fn put_rest<O: Out>(&self, out: &mut O) -> Result<(), Failed>
+        ensures { OnOk result (Wrote (O.device out.old) (O.device out.new) (rest_text self.now)) }
+    {
+        put_number(b" idle ", self.idle, out)?;
+        put_drains(self.drained, out)
+    }
+
     // Puts how many steps were made inside of transactions.
     fn put_inner<O: Out>(&self, out: &mut O) -> Result<(), Failed>
         ensures { OnOk result (Wrote (O.device out.old) (O.device out.new) (inner_text self.now)) }

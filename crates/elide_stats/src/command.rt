@@ -24,7 +24,7 @@ use crate::counting::{Counting, Recorded};
 use crate::told::{CountedRun, Form, tell_counting};
 use elide_args::StatsOptions;
 use elide_device::Progress;
-use elide_program::{Paths, ProgramFile, Settings, read_file};
+use elide_program::{Paths, ProgramFile, Settings, has_store_buffer, read_file};
 use elide_setup::{Course, Plan, Refusal, Setup, new_machine, planned, record_path};
 use std::alloc::Global;
 use text_out::Out;
@@ -71,7 +71,7 @@ pub fn stats<P: Paths, O: Out, G: Progress>(
 {
     let path = record_path(options.record, options.machine.file, paths)?;
     let settings = Settings::read(&options.machine)?;
-    let plan = Plan::read(alloc, &options.schedule)?;
+    let plan = Plan::read(alloc, &options.schedule, has_store_buffer(&options.machine))?;
     let asked = Asked {
         alloc,
         options,

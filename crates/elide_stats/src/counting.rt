@@ -21,6 +21,7 @@ ghost use Rattle.elide_stats.specs.Refused.{IsUncounted, IsUncountedStep};
 
 use crate::asked::Asked;
 use crate::hits::{CoreBytes, Hits};
+use crate::stores::Stores;
 use elide_device::Progress;
 use elide_program::Paths;
 use elide_setup::{Course, Fault, Refusal, StepMaker, walk_history};
@@ -28,7 +29,7 @@ use std::alloc::{AllocError, Global};
 use tm_core::{Machine, RunFault};
 use tm_hist::Board;
 use tm_model::{Outcome, Pick};
-use tm_stats::{AbortCause, Conflicts, RunCounts};
+use tm_stats::{AbortCause, ByteStep, Conflicts, RunCounts};
 
 /// A machine, with the counts of the steps that it made.
 #[derive(Drop)]
@@ -39,6 +40,8 @@ pub struct Counting {
     bytes: CoreBytes,
     // Of the step that is asked for.
     hits: Hits,
+    // Which instructions made what is pending.
+    stores: Stores,
 }
 
 /// A schedule, and where it is written, where there is a path.
@@ -63,14 +66,21 @@ impl StepMaker for Counting {
         };
         let asked = Asked::before(&self.machine, core, preview.reason);
         self.hits.ask(&self.machine, &preview);
+        self.hits
+            .ask_drain(&self.machine, core, self.stores.oldest(core));
+        let before = self.stores.count(core);
         let outcome = self.machine.make_step(pick)?;
+        let pending = pending_of(&self.machine, core);
         count_hits(
             &mut self.conflicts,
             &mut self.bytes,
             core,
             &self.hits,
-            outcome,
+            self.hits.step(outcome, pending > before),
         )?;
+        if self.stores.record(core, preview.eip, pending).is_err() {
+            return Err(no_memory());
+        }
         match self.counts.note(asked.step(core, outcome)) {
             Ok(()) => Ok(outcome),
             Err(_) => Err(no_memory()),
@@ -88,12 +98,16 @@ impl Counting {
         let Ok(bytes) = CoreBytes::new(alloc, machine.cores()) else {
             return Err(no_memory());
         };
+        let Ok(stores) = Stores::new(alloc, machine.cores()) else {
+            return Err(no_memory());
+        };
         Ok(Counting {
             machine,
             counts: RunCounts::new(alloc),
             conflicts: Conflicts::new(alloc),
             bytes,
             hits: Hits::none(),
+            stores,
         })
     }
 
@@ -159,18 +173,25 @@ impl Counting {
     }
 }
 
+// How many stores of a core are pending.
+fn pending_of(machine: &Machine, core: u8) -> usize {
+    match machine.pending(core) {
+        Ok(stores) => stores.len(),
+        Err(_) => 0,
+    }
+}
+
 // Counts the transactions of other cores that a step of a core has hit.
 fn count_hits(
     conflicts: &mut Conflicts,
     bytes: &mut CoreBytes,
     core: u8,
     hits: &Hits,
-    outcome: Outcome,
+    step: ByteStep,
 ) -> Result<(), Refusal>
     ensures { IfErr result IsAnyWant }
 {
-    let step = hits.step(outcome);
-    for (victim, conflict) in hits.conflicts_by(outcome) {
+    for (victim, conflict) in hits.conflicts_by(step.outcome) {
         let mut conflict = *conflict;
         conflict.is_apart = bytes.is_apart(core, step, *victim, conflict.line);
         if conflicts.note(conflict).is_err() {

@@ -1,15 +1,17 @@
 //! The transactions that steps hit, and the bytes on which they meet.
 //!
 //! [`Hits::ask`] comes before the step, as a transaction that is hit is condemned behind it; whether the step was made
-//! at all is known by its outcome. The room for hits is made once a run. [`CoreBytes`] is told each step, and asked
-//! before that whether two cores meet on a byte. Which steps hit is the machine's to say; counts are `tm_stats`'s.
+//! at all, or a store that had been pending reached memory in its place, is known by its outcome. The room for hits is
+//! made once a run. [`CoreBytes`] is told each step, and asked before that whether two cores meet on a byte. Which
+//! steps hit is the machine's to say; counts are `tm_stats`'s.
 
-ghost use Rattle.std.specs.Prelude.{◌≡◌};
+ghost use Rattle.std.specs.Prelude.{◌≡◌, ◌<◌, length};
 ghost use Rattle.tm_core.specs.Previewed.{IsPreview};
-ghost use Rattle.elide_stats.specs.Hits.{hits_made};
+ghost use Rattle.elide_stats.specs.Hits.{hits_made, reach_made};
 
 use crate::asked::conflict_of;
 use arrayvec::ArrayVec;
+use ia_addr::Access;
 use std::alloc::{AllocError, Global};
 use tm_core::{Machine, Preview};
 use tm_model::{Outcome, Reach};
@@ -24,17 +26,25 @@ pub struct Hits {
     // Each with the core whose transaction it is.
     conflicts: ArrayVec<(u8, Conflict), MOST_CORES>,
     reach: Reach,
+    // Those of a drain in the place of the step.
+    drains: ArrayVec<(u8, Conflict), MOST_CORES>,
+    drained: Reach,
 }
+
+// No bytes.
+const NOTHING: Reach = Reach {
+    load: None,
+    store: None,
+};
 
 impl Hits {
     /// Before the first step is asked for.
     pub fn none() -> Hits {
         Hits {
             conflicts: ArrayVec::new(),
-            reach: Reach {
-                load: None,
-                store: None,
-            },
+            reach: NOTHING,
+            drains: ArrayVec::new(),
+            drained: NOTHING,
         }
     }
 
@@ -56,25 +66,73 @@ impl Hits {
         }
     }
 
+    /// Asks a machine before the same step for the hits of a drain in its place: of the oldest pending store of the
+    /// core, which the instruction at this address made, where there is one.
+    pub fn ask_drain(&mut self, machine: &Machine, core: u8, by: Option<u32>)
+        requires { core < length machine.now.views }
+    {
+        self.drains.clear();
+        self.drained = NOTHING;
+        let Some(by) = by else {
+            return;
+        };
+        self.drained = Reach {
+            load: None,
+            store: oldest_of(machine, core),
+        };
+        for victim in 0..machine.cores() {
+            if let Some(hit) = machine.hit_by_drain(core, victim).unwrap() {
+                let conflict = conflict_of(machine, by, victim, hit.line, hit.kind);
+                let _ = self.drains.try_push((victim, conflict));
+            }
+        }
+    }
+
     /// Each hit, with the core whose transaction it is, once the outcome is known: a step in whose place an abort from
-    /// outside or a drain came was not made, and hits nobody.
+    /// outside came was not made, and hits nobody; one in whose place a store reached memory hits whom this hits.
     pub fn conflicts_by(&self, outcome: Outcome) -> &[(u8, Conflict)]
-        ensures { result.now ≡ hits_made outcome self.now.conflicts.items }
+        ensures { result.now ≡ hits_made outcome self.now.conflicts.items self.now.drains.items }
     {
         match outcome {
-            Outcome::AbortedBy(_, _) | Outcome::Drained => &[],
+            Outcome::AbortedBy(_, _) => &[],
+            Outcome::Drained => self.drains.as_slice(),
             _ => self.conflicts.as_slice(),
         }
     }
 
-    /// The step, once its outcome is known.
-    pub fn step(&self, outcome: Outcome) -> ByteStep
-        ensures { result ≡ record { outcome = outcome; reach = self.now.reach } }
+    /// The step, once its outcome is known, and whether its store is pending now: others do not see that one yet.
+    pub fn step(&self, outcome: Outcome, pends: bool) -> ByteStep
+        ensures { result ≡ record { outcome = outcome; reach = reach_made outcome pends self.now.reach self.now.drained } }
     {
         ByteStep {
             outcome,
-            reach: self.reach,
+            reach: reach_made(outcome, pends, self.reach, self.drained),
         }
+    }
+}
+
+// The bytes of the oldest pending store of a core.
+fn oldest_of(machine: &Machine, core: u8) -> Option<Access>
+    requires { core < length machine.now.views }
+{
+    let oldest = machine.pending(core).unwrap().first()?;
+    Some(Access {
+        addr: oldest.addr,
+        width: oldest.width,
+    })
+}
+
+// The bytes of a step that others see.
+fn reach_made(outcome: Outcome, pends: bool, step: Reach, drain: Reach) -> Reach
+    ensures { result ≡ reach_made outcome pends step drain }
+{
+    match outcome {
+        Outcome::Drained => drain,
+        _ if pends => Reach {
+            load: step.load,
+            store: None,
+        },
+        _ => step,
     }
 }
 

@@ -24,6 +24,7 @@ mod hits;
 mod json;
 mod labels;
 mod report;
+mod stores;
 mod told;
 
 pub use columns::put_columns;

@@ -50,6 +50,8 @@ pub struct StepsRow {
     pub open: u64,
     /// Those of cores that had stopped.
     pub idle: u64,
+    /// The drains of stores that were pending.
+    pub drained: u64,
 }
 
 /// The transactions of a place.
@@ -191,6 +193,7 @@ fn steps_of(counts: &RunCounts) -> StepsRow
         aborted: lost_steps(&counts.places),
         open: open_steps(&counts.under_way),
         idle: counts.idle,
+        drained: counts.drained,
     }
 }
 

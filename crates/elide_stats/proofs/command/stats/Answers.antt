@@ -1,4 +1,4 @@
-use Rattle.std.proofs.Common.{◌≡◌, ◌∙◌, ℕ, List, Option, inl, inr, subst}
+use Rattle.std.proofs.Common.{◌≡◌, ◌∙◌, ℕ, Bool, List, Option, ap, inl, inr, subst}
 use Rattle.std.proofs.lemmas.Result.{IfErr-weaker, err_from_is_err_and, on_ok_weaker}
 use Rattle.std.specs.Borrow.{Bor}
 use Rattle.elide_setup.proofs.Made.{of_plan}
@@ -6,6 +6,7 @@ use Rattle.elide_program.specs.ProgramFile.{IsRead}
 use Rattle.elide_program.specs.declared.file.ProgramFile.{ProgramFile}
 use Rattle.elide_setup.specs.Made.{HasRun, HasRunPlan}
 use Rattle.elide_setup.specs.Refused.{misplanned, misread, no_setup}
+use Rattle.elide_setup.specs.Schedules.{form_asked}
 use Rattle.elide_stats.specs.Refused.{IsNotCounted, IsRefused, unscheduled}
 use Rattle.elide_stats.proofs.command.stats.Goals as goal
 
@@ -28,7 +29,8 @@ returns-clause-ran g c =
     (c.record_path.ensures.kept options.machine.file.now) made.2)
     c.in_ok-settings.ensures.settings
     (λ picks. c.in_ok-plan.ensures.steps content picks)
-    c.in_ok-plan.ensures.listed made.4))
+    (c.in_ok-plan.ensures.listed
+    ∙ ap (λ (drains : Bool). form_asked drains options.schedule) c.has_store_buffer.ensures) made.4))
     c.stats_of_path.ensures.ran
 
 pub stats_of_path-requires : goal.stats_of_path-requires

@@ -4,7 +4,7 @@ use Rattle.elide_stats.proofs.counting.CountingStepMaker.make_step.Goals as goal
 pub returns-in-Ok-note-clause-made : goal.returns-in-Ok-note-clause-made
 returns-in-Ok-note-clause-made c =
     let machine = c.args.self.now.machine in
-    let step = c.step.result in (
+    let step = c.step-2.result in (
       c.in_ok-outcome.ensures.made,
       λ earlier. record {
         told = step ∷ earlier;
@@ -12,7 +12,7 @@ returns-in-Ok-note-clause-made c =
           c.make_step.new.self,
           step,
           c.in_ok-outcome.ensures.made,
-          c.step.ensures machine c.before-asked.ensures,
+          c.step-2.ensures machine c.before-asked.ensures,
           (refl, refl),
         );
         counts = λ few was. c.in-Ok-note.ensures.ok earlier (omega (arith, few)) was;
