@@ -1,7 +1,8 @@
 //! `elide hunt`: [`hunt`] is the one call.
 //!
-//! Faults come in this order: the machine's options, those of the search, `--record`, `--page`, FILE, the program, the
-//! checks, its loading, what the checks look at, the runs. A run that failed is shortened, and its loop looked for;
+//! `--page` is refused first where stores may be pending: a page shows each store in memory at the step that makes it.
+//! Then faults come in this order: the machine's options, those of the search, `--record`, `--page`, FILE, the program,
+//! the checks, its loading, what the checks look at, the runs. A run that failed is shortened, and its loop looked for;
 //! then its page is written, its record, and last the lines or the object. A page that cannot be written is told behind
 //! them. Runs are drawn by `tm_pick`, made and shortened by `tm_hunt`.
 
@@ -40,7 +41,7 @@ use crate::searching::search_runs;
 use elide_args::HuntOptions;
 use elide_checks::{Demands, Orders};
 use elide_device::{Gathered, Progress};
-use elide_program::{Paths, ProgramFile, Settings, read_file};
+use elide_program::{Paths, ProgramFile, Settings, has_store_buffer, read_file};
 use elide_setup::{Paged, Pages, Refusal, Setup, page_path, record, record_path};
 use std::alloc::Global;
 use std::thread::Threads;
@@ -73,6 +74,8 @@ impl Answer {
 /// page where that is asked for, and prints what came about. Answers whether a run failed and what became of its page,
 /// and gives the device back. Where the page cannot be written that is the refusal, and what came about is printed
 /// before.
+///
+/// [`Refusal::Usage`] of `--page`, where stores may be pending.
 pub fn hunt<R: Threads + Sync + AllocGlobal, P: Paths, O: Out + Drop, G: Progress, W: Pages>(
     rt: &R,
     options: &HuntOptions<'_>,
@@ -85,6 +88,9 @@ pub fn hunt<R: Threads + Sync + AllocGlobal, P: Paths, O: Out + Drop, G: Progres
         (O.device out).contents (O.device r.2).contents) }
     ensures refused { IfErr result (IsRefused (P.content paths.old) (P.are_one paths.old) options.now) }
 {
+    if options.page.is_some() && has_store_buffer(&options.machine) {
+        return Err(Refusal::Usage("--page"));
+    }
     let settings = Settings::read(&options.machine)?;
     let orders = Orders::read(rt, options)?;
     let path = record_path(options.record, options.machine.file, paths)?;

@@ -42,7 +42,7 @@ pub record IsMade (setup : Setup) (shown : List Item) (checked : List Check) (un
   pub program : trial.program.now ≡ setup.program
   pub limits : trial.limits ≡ setup.limits
   pub items : trial.items.now ≡ shown
-  pub events : AreUnder under trial.events
+  pub events : AreUnder under (nat_lt 0 setup.limits.stores) trial.events
   pub stops : trial.stops.now ≡ reasons
   pub checks : trial.checks.now ≡ checked
 

@@ -5,7 +5,7 @@
 //! printed, and the page comes last: that it is not written is told behind the outcomes. States are followed by
 //! `tm_outcomes`, on one thread.
 
-ghost use Rattle.std.specs.Prelude.{◌≡◌, ◌≤◌, IfErr, IfOk, MatchResult, OnOk, codes};
+ghost use Rattle.std.specs.Prelude.{◌≡◌, ◌≤◌, IfErr, IfOk, MatchResult, OnOk, codes, nat_lt};
 ghost use Rattle.std.specs.Option.{option_copied};
 ghost use Rattle.elide_program.specs.ProgramFile.{IsFile};
 ghost use Rattle.elide_program.specs.declared.file.ProgramFile.{ProgramFile};
@@ -254,11 +254,19 @@ fn search_of_file<G: Progress>(
         file,
     )?;
     let labels = labels_of(alloc, options.shows_names, text, file)?;
-    let listed = asked.under.listed(alloc)?;
-    let events = asked.under.events(listed.as_slice());
     let setup = Setup::of_file(alloc, settings, file)?;
+    let drains = may_drain(&setup);
+    let listed = asked.under.listed(alloc, drains)?;
+    let events = asked.under.events(drains, listed.as_slice());
     let search = search_of_setup(asked, items.as_slice(), &ends, events, &setup, progress)?;
     Ok(Found { search, labels })
+}
+
+// Whether stores may be pending on the machine.
+fn may_drain(setup: &Setup) -> bool
+    ensures { result ≡ nat_lt 0 setup.now.limits.stores }
+{
+    setup.limits.stores > 0
 }
 
 // Whether something else than what is shown is asked for.
@@ -281,7 +289,7 @@ fn search_of_setup<'x, G: Progress>(
     progress: &mut G,
 ) -> Result<Search, Refusal>
     requires most { 1 ≤ asked.now.most }
-    requires under { AreUnder asked.now.under events }
+    requires under { AreUnder asked.now.under (nat_lt 0 setup.now.limits.stores) events }
     ensures { MatchResult result
         (λ search. (trial : Trial)
         × IsMade setup.now items.now ends.now.checks.items asked.now.under asked.now.stops.now
