@@ -80,6 +80,7 @@ pub fn number_text<'s>(subcommand: &'s Subcommand<'_>, name: &str) -> Option<&'s
             "--mem" => machine.memory,
             "--reads" => machine.reads,
             "--writes" => machine.writes,
+            "--store-buffer" => machine.store_buffer,
             _ => None,
         },
         None => None,

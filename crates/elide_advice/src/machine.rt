@@ -1,8 +1,7 @@
 //! Machines that are not made: which option is at fault, what it was, and what it takes.
 //!
 //! Values are read from the options once more, with what stands for one that is not given. No file is read: of a
-//! program that does not fit, the fault itself says why. Of limits both are looked at, and each that is none has a
-//! line.
+//! program that does not fit, the fault itself says why. Of limits each is looked at, and each that is none has a line.
 
 use crate::asked::{machine_of, number_text};
 use crate::page::Page;
@@ -100,13 +99,17 @@ fn advise_memory<O: Out>(cores: u32, memory: u32, page: &mut Page<'_, O>) -> fmt
     }
 }
 
-/// Writes which limits on lines are none.
+/// Writes which limits on lines and on pending stores are none.
 pub fn advise_limits<O: Out>(subcommand: &Subcommand<'_>, page: &mut Page<'_, O>) -> fmt::Result {
     for name in ["--reads", "--writes"] {
         let value = number_or(number_text(subcommand, name), 512);
         if value < 1 || value > 4096 {
             writeln!(page, "{name} {value}: 1 to 4096 lines")?;
         }
+    }
+    let stores = number_or(number_text(subcommand, "--store-buffer"), 0);
+    if stores > 64 {
+        writeln!(page, "--store-buffer {stores}: 0 to 64 stores")?;
     }
     Ok(())
 }

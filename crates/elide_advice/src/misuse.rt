@@ -8,7 +8,7 @@ use crate::draws::{advise_events, advise_seed};
 use crate::machine::cores_of;
 use crate::page::Page;
 use elide_args::{ScheduleOptions, Subcommand};
-use elide_program::number_of;
+use elide_program::{has_store_buffer, number_of};
 use std::fmt;
 use std::fmt::Write;
 use text_out::Out;
@@ -30,6 +30,9 @@ pub fn advise_misuse<O: Out>(
             "one of --show, --check, --forbid, --stop and --stuck is wanted"
         ),
         ("--record" | "--output", _) => writeln!(page, "{name} takes another path than FILE"),
+        ("--page", other) if has_pending_stores(other) => {
+            writeln!(page, "--page goes without --store-buffer")
+        }
         ("--page", Subcommand::Outcomes(_)) => writeln!(
             page,
             "--page takes the number of an outcome that is told, from 1 on, and another path than FILE"
@@ -54,6 +57,14 @@ pub fn advise_misuse<O: Out>(
         ("--words", _) => writeln!(page, "--words takes auto, always or never"),
         ("FAULT", other) => advise_unknown(other, page),
         (number, other) => advise_number(other, number, page),
+    }
+}
+
+// Whether stores may be pending on a subcommand's machine.
+fn has_pending_stores(subcommand: &Subcommand<'_>) -> bool {
+    match machine_of(subcommand) {
+        Some(machine) => has_store_buffer(machine),
+        None => false,
     }
 }
 
@@ -164,7 +175,8 @@ fn advise_steps<O: Out>(schedule: &ScheduleOptions<'_>, page: &mut Page<'_, O>) 
 // What is wrong with a list of steps.
 fn advise_list<O: Out>(list: &str, page: &mut Page<'_, O>) -> fmt::Result {
     for (index, character) in list.chars().enumerate() {
-        let stands_in_a_step = character.is_ascii_digit() || matches!(character, 'i' | 'e' | 's');
+        let stands_in_a_step = character.is_ascii_digit()
+            || matches!(character, 'i' | 'e' | 's' | 'd');
         if !stands_in_a_step && !character.is_ascii_whitespace() {
             let column = index.saturating_add(1);
             return writeln!(
@@ -175,7 +187,7 @@ fn advise_list<O: Out>(list: &str, page: &mut Page<'_, O>) -> fmt::Result {
     }
     writeln!(
         page,
-        "--steps takes core numbers of 0 to 255, and i, e or s behind those under an event"
+        "--steps takes core numbers of 0 to 255, and i, e, s or d behind those under an event"
     )
 }
 

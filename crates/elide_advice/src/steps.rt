@@ -69,7 +69,7 @@ pub fn advise_schedule<P: Paths, O: Out>(
         }
         ScheduleFault::BadSchedule(line) => {
             let meaning =
-                "core numbers of 0 to 255 between spaces; below 'schedule 2' also c*n, below 'schedule 3' ci, ce, cs too";
+                "core numbers of 0 to 255 between spaces; below 'schedule 2' also c*n, below 'schedule 3' ci, ce, cs, cd too";
             write_line(path, line, meaning, paths, page)
         }
         ScheduleFault::TooManySteps(line) => {

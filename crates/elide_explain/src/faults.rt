@@ -115,8 +115,8 @@ const IMAGE: &str = "\
 
 const MACHINE: &str = "\
 40 BadLimits
-    A transaction is to read or to write not 1 to 4096 lines.
-    To do: --reads and --writes take 1 to 4096 lines of 64 bytes.
+    A transaction is to read or to write not 1 to 4096 lines, or a core is to have more than 64 stores pending.
+    To do: --reads and --writes take 1 to 4096 lines of 64 bytes, --store-buffer 0 to 64 stores.
     Example: --reads 0
 41 NoMemory
     There is no memory for the machine.
