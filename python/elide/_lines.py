@@ -5,7 +5,7 @@ import re
 from functools import lru_cache
 from typing import Callable, List, NoReturn, Optional, Pattern, Sequence, Tuple
 
-from .records import Reason, Registers, Sets, Step
+from .records import Pending, Reason, Registers, Sets, Step
 
 # The registers of a state line, in its order.
 REGISTERS = ("eax", "ecx", "edx", "ebx", "esp", "ebp", "esi", "edi", "eip")
@@ -19,12 +19,15 @@ _STATE = re.compile(
     + r" flags=([0-9a-f]{3})"
 )
 _OUTCOME = re.compile(
-    r"(\d+) (?:(plain|loaded|idle|begun|inside|committed)|(stopped) (\S+)"
+    r"(\d+) (?:(plain|loaded|idle|begun|inside|committed|drained)|(stopped) (\S+)"
     r"|(aborted) ([0-9a-f]{8})(?: (interrupt|eviction|snoop))?)"
 )
 _SETS = re.compile(r"sets (\d+) (\S+) reads (-|[0-9a-f ]+) writes (-|[0-9a-f ]+)")
 _WHY = re.compile(r"core (\d+): (.+)")
-_HIT = re.compile(r" line ([0-9a-f]+): (read|written) at step (\d+) by core (\d+) at ([0-9a-f]{8})")
+_PENDING = re.compile(r"pending (\d+) (?:(-)|([0-9a-f]{8}) ([0-9a-f]{8}|[0-9a-f]{2}))")
+_HIT = re.compile(
+    r" line ([0-9a-f]+): (read|written|drained) at step (\d+) by core (\d+)(?: at ([0-9a-f]{8}))?"
+)
 _BEGUN = re.compile(r"; begun at step (\d+)")
 _DUMP = re.compile(r"([0-9a-f]{8}) ((?:[0-9a-f]{2})+)")
 _BREAK = re.compile(r"break (\d+) ([0-9a-f]{8})")
@@ -75,6 +78,16 @@ def sets(row: Sequence[str]) -> Sets:
     return Sets(int(core), state, depth, _numbers(reads), _numbers(writes))
 
 
+def pending(row: Sequence[str]) -> Tuple[Pending, ...]:
+    """The stores of a core that are pending, the oldest first."""
+    stores = []
+    for line in row:
+        core, none, address, value = _fields(_PENDING, line)
+        if not none:
+            stores.append(Pending(int(core), int(address, 16), int(value, 16), len(value) // 2))
+    return tuple(stores)
+
+
 def reason(row: Sequence[str]) -> Optional[Reason]:
     """Why the next step of a core is an abort, or None where it is none."""
     core, text = _fields(_WHY, _one(row))
@@ -90,7 +103,7 @@ def reason(row: Sequence[str]) -> Optional[Reason]:
         hit[2] if hit else None,
         int(hit[3]) if hit else None,
         int(hit[4]) if hit else None,
-        int(hit[5], 16) if hit else None,
+        int(hit[5], 16) if hit and hit[5] else None,
         int(begun[1]) if begun else None,
     )
 

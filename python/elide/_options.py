@@ -45,6 +45,7 @@ def machine(
     entry: Union[None, Address, Sequence[Address]],
     reads: Optional[int],
     writes: Optional[int],
+    store_buffer: Optional[int] = None,
 ) -> List[str]:
     """The options of the machine."""
     if entry is not None and not isinstance(entry, (int, str)):
@@ -55,6 +56,7 @@ def machine(
         *option("entry", entry),
         *option("reads", reads),
         *option("writes", writes),
+        *option("store-buffer", store_buffer),
     ]
 
 

@@ -35,6 +35,7 @@ def run(
     entry: Entry = None,
     reads: Optional[int] = None,
     writes: Optional[int] = None,
+    store_buffer: Optional[int] = None,
     steps: Optional[Steps] = None,
     schedule: Optional[PathLike] = None,
     in_turn: bool = False,
@@ -53,11 +54,12 @@ def run(
     state at its end.
 
     `dump` is one part of memory or several, as `count:4`; `show` is one sum or several, as
-    `table+8`, whose doublewords are shown. With `trace` the outcome of each step is told, with
+    `table+8`, whose doublewords are shown. `store_buffer` is how many stores of a core may be
+    pending, 0 to 64. With `trace` the outcome of each step is told, with
     `expect_halt` which cores have not stopped.
     """
     options = [
-        *_options.machine(cores, memory, entry, reads, writes),
+        *_options.machine(cores, memory, entry, reads, writes, store_buffer),
         *several("dump", dump),
         *several("show", show),
         *flag("trace", trace),
@@ -84,6 +86,7 @@ def replay(
     entry: Entry = None,
     reads: Optional[int] = None,
     writes: Optional[int] = None,
+    store_buffer: Optional[int] = None,
     steps: Optional[Steps] = None,
     schedule: Optional[PathLike] = None,
     in_turn: bool = False,
@@ -99,7 +102,7 @@ def replay(
     """Runs a schedule as `run` does, and its history once more on one memory, each committed
     transaction as a whole; gives the state, and whether both came to the same."""
     options = [
-        *_options.machine(cores, memory, entry, reads, writes),
+        *_options.machine(cores, memory, entry, reads, writes, store_buffer),
         *several("dump", dump),
         *several("show", show),
         *option("record", record),

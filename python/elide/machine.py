@@ -21,7 +21,7 @@ from . import _lines
 from ._options import Schedule
 from ._process import Process, lines
 from .errors import REFUSALS, BadAnswer, Error, Fault, ProgramEnded
-from .records import Reason, Registers, Sets, Step, Steps
+from .records import Pending, Reason, Registers, Sets, Step, Steps
 
 if TYPE_CHECKING:
     from .program import Program
@@ -47,7 +47,8 @@ ENDS = {
     FULL: "limit",
 }
 
-EVENTS = {"interrupt": "i", "eviction": "e", "snoop": "s", "i": "i", "e": "e", "s": "s"}
+_NAMES = ("interrupt", "eviction", "snoop", "drain")
+EVENTS = {**{it: it[0] for it in _NAMES}, **{it[0]: it[0] for it in _NAMES}}
 
 
 class Machine:
@@ -84,12 +85,13 @@ class Machine:
     # What the machine is asked.
 
     def step(self, core: int, event: Optional[str] = None) -> Step:
-        """One step of a core, under an event from outside where one is given: `interrupt`,
-        `eviction` or `snoop`, or its first letter."""
+        """One step of a core, under an event where one is given: from outside, `interrupt`,
+        `eviction` or `snoop`, or `drain`, of the core's oldest pending store; or its first
+        letter."""
         letter = ""
         if event is not None:
             if event not in EVENTS:
-                raise ValueError(f"no event {event!r}; there are interrupt, eviction and snoop")
+                raise ValueError(f"no event {event!r}; there are {', '.join(_NAMES)}")
             letter = EVENTS[event]
         pick = f"{core:d}{letter}"
         with self._turn(f"step {pick}"):
@@ -146,6 +148,10 @@ class Machine:
     def sets(self, core: int) -> Sets:
         """The lines that a core's transaction has read and written."""
         return self._told(f"sets {core:d}", _lines.sets)
+
+    def pending(self, core: int) -> Tuple[Pending, ...]:
+        """The stores of a core that are not in memory yet, the oldest first."""
+        return self._told(f"pending {core:d}", _lines.pending)
 
     def why(self, core: int) -> Optional[Reason]:
         """Why the next step of a core is an abort, if no event comes in its place; None where it is

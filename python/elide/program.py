@@ -94,6 +94,7 @@ class Program:
         entry: Union[None, _options.Address, Sequence[_options.Address]] = None,
         reads: Optional[int] = None,
         writes: Optional[int] = None,
+        store_buffer: Optional[int] = None,
         steps: Optional[_options.Steps] = None,
         schedule: Optional[PathLike] = None,
         in_turn: bool = False,
@@ -119,7 +120,7 @@ class Program:
             events=events,
             seed=seed,
         )
-        options = _options.machine(cores, memory, entry, reads, writes)
+        options = _options.machine(cores, memory, entry, reads, writes, store_buffer)
         with plan as words:
             command = self.command("debug", [*options, *words])
             return Machine(self, command, plan, timeout)

@@ -41,8 +41,9 @@ class Step:
     """What a step was. `number` counts the steps from 1.
 
     `outcome` is `plain`, `loaded` (the first of two steps), `stopped`, `idle`, `begun`, `inside`,
-    `committed` or `aborted`. `cause` says why a core stopped; `status` is that of an abort, in EAX;
-    `event` is `interrupt`, `eviction` or `snoop` where one from outside aborted.
+    `committed`, `aborted` or `drained` (the core's oldest pending store reached memory). `cause`
+    says why a core stopped; `status` is that of an abort, in EAX; `event` is `interrupt`,
+    `eviction` or `snoop` where one from outside aborted.
     """
 
     number: int
@@ -54,8 +55,10 @@ class Step:
 
     @property
     def pick(self) -> str:
-        """The step as a word of a schedule: `0`, or `1i` where an interrupt aborted it."""
-        return f"{self.core}{self.event[0] if self.event else ''}"
+        """The step as a word of a schedule: `0`, `1i` where an interrupt aborted it, or `0d` where
+        it was a drain."""
+        letter = "d" if self.outcome == "drained" else self.event[0] if self.event else ""
+        return f"{self.core}{letter}"
 
     def __str__(self) -> str:
         status = None if self.status is None else f"{self.status:08x}"
@@ -97,13 +100,25 @@ class Sets:
 
 
 @dataclass(frozen=True)
+class Pending:
+    """A store of a core that is not in memory yet: its address, the value, and how many bytes it
+    stores, 1 or 4."""
+
+    core: int
+    address: int
+    value: int
+    size: int
+
+
+@dataclass(frozen=True)
 class Reason:
     """Why the next step of a core is an abort.
 
     `text` is the whole reason and `cause` its first words, as `conflict`, `capacity` or `xabort`.
     Where another core's step doomed the transaction: `line` is the lowest line that was hit,
     `access` is `read` or `written`, by step `step` (from 1) of core `by`, whose instruction is at
-    `address`. `begun` is the step of the outermost XBEGIN.
+    `address`; or `drained`, where a store that was pending reached memory, and no address.
+    `begun` is the step of the outermost XBEGIN.
     """
 
     core: int

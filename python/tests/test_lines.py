@@ -79,6 +79,16 @@ class Lines(unittest.TestCase):
             self.assertEqual(_lines.step(line, 1), step)
             self.assertEqual(str(step), line)
         self.assertEqual(elide.Step(1, 12, "aborted", status=6, event="snoop").pick, "12s")
+        self.assertEqual(_lines.step("0 drained", 1).pick, "0d")
+
+    def test_pending(self) -> None:
+        self.assertEqual(_lines.pending(["pending 1 -"]), ())
+        self.assertEqual(
+            _lines.pending(["pending 1 00000140 00000001", "pending 1 00000181 ff"]),
+            (elide.Pending(1, 0x140, 1, 4), elide.Pending(1, 0x181, 0xFF, 1)),
+        )
+        with self.assertRaises(ValueError):
+            _lines.pending(["pending 1 00000140 001"])
 
     def test_reasons(self) -> None:
         for text, cause, begun in (
@@ -90,6 +100,11 @@ class Lines(unittest.TestCase):
             reason = _lines.reason([f"core 1: {text}"])
             self.assertEqual(reason, elide.Reason(1, text, cause, begun=begun))
         self.assertIsNone(_lines.reason(["core 1: its next step is no abort"]))
+        told = "core 0: conflict line 40: drained at step 4 by core 1; begun at step 1"
+        drained = _lines.reason([told])
+        assert drained is not None
+        self.assertEqual((drained.access, drained.step, drained.by), ("drained", 4, 1))
+        self.assertEqual((drained.line, drained.address, drained.begun), (0x40, None, 1))
 
     def test_other_forms(self) -> None:
         for line in ("", "0", "0 aborted", "0 aborted 6", "a plain", "0 plain ", "0 stopped"):

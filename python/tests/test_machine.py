@@ -48,6 +48,22 @@ class Steps(Case):
             self.assertEqual(machine.step(0, event="interrupt").outcome, "begun")
             self.assertEqual(machine.schedule, ["0i"])
 
+    def test_pending_stores(self) -> None:
+        with elide.Program.from_source(LOST) as program:
+            with program.machine(store_buffer=1) as machine:
+                words = [machine.step(0).outcome for _ in range(2)]
+                self.assertEqual(words, ["loaded", "plain"])
+                (store,) = machine.pending(0)
+                self.assertEqual((store.core, store.value, store.size), (0, 1, 4))
+                self.assertEqual(machine.value(store.address), 0)
+                self.assertEqual(machine.step(0, "drain"), elide.Step(3, 0, "drained"))
+                self.assertEqual(machine.schedule, ["0", "0", "0d"])
+                self.assertEqual((machine.pending(0), machine.value("count")), ((), 1))
+            ended = elide.run(program, steps="0 0 0 0", store_buffer=1, trace=True, show="count")
+            outcomes = [it.outcome for it in ended.outcomes]
+            self.assertEqual(outcomes, ["loaded", "plain", "drained", "stopped"])
+            self.assertEqual(ended.values, {"count": 1})
+
     def test_stopped_and_idle(self) -> None:
         with elide.Program.from_source("start: hlt") as program, program.machine() as machine:
             self.assertEqual(machine.step(0), elide.Step(1, 0, "stopped", cause="HLT"))
