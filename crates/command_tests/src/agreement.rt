@@ -10,6 +10,7 @@ use tm_hist::Board;
 const LIMITS: Limits = Limits {
     read_lines: 512,
     write_lines: 512,
+    stores: 0,
 };
 
 // A board of this code at 100h after so many steps of core 0. Each core begins at 100h.

@@ -46,6 +46,7 @@ fn a_conflict(rt: HostRuntime) -> Result<(), Fail> {
     let limits = Limits {
         read_lines: 512,
         write_lines: 512,
+        stores: 0,
     };
     let program = load(alloc, &INCREMENT, 0x100, 22, 65536, &[0x100, 0x100])?;
     let mut machine = Machine::new(alloc, &program, limits)?;
@@ -64,6 +65,7 @@ fn other_parts(rt: HostRuntime) -> Result<(), Fail> {
     let limits = Limits {
         read_lines: 512,
         write_lines: 512,
+        stores: 0,
     };
     let program = load(alloc, &INCREMENT, 0x100, 22, 65536, &[0x100])?;
     let machine = Machine::new(alloc, &program, limits)?;

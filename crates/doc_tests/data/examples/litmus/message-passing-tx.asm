@@ -23,3 +23,7 @@ flag:   dd 0
 
 ; elide: outcomes --cores 2 --entry writer,reader --show "eax@1 ebx@1"
 ; expect: exactly 0 0 | 0 1 | 1 1 | 6 0
+; elide: outcomes --cores 2 --entry writer,reader --show "eax@1 ebx@1" --store-buffer 2
+; expect: exactly 0 0 | 0 1 | 1 1 | 6 0
+; elide: outcomes --cores 2 --entry writer,reader --show "eax@1 ebx@1" --store-buffer 8
+; expect: exactly 0 0 | 0 1 | 1 1 | 6 0

@@ -25,3 +25,7 @@ y:      dd 0
 
 ; elide: outcomes --cores 2 --entry first,second --show "eax@0 eax@1 x y"
 ; expect: exactly 0 1 1 1 | 0 6 1 0 | 1 0 1 1 | 6 0 0 1
+; elide: outcomes --cores 2 --entry first,second --show "eax@0 eax@1 x y" --store-buffer 2
+; expect: exactly 0 1 1 1 | 0 6 1 0 | 1 0 1 1 | 6 0 0 1
+; elide: outcomes --cores 2 --entry first,second --show "eax@0 eax@1 x y" --store-buffer 8
+; expect: exactly 0 1 1 1 | 0 6 1 0 | 1 0 1 1 | 6 0 0 1
