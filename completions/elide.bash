@@ -6,7 +6,7 @@ _elide_options() {
     asm) echo '--help --list --words --color' ;;
     dis) echo '--help --labels --words --color' ;;
     run) echo '--help --cores --mem --entry --reads --writes --store-buffer --dump --show --steps --schedule --trace --code --why --expect-halt --in-turn --random --events --seed --limit --record --json --words --color' ;;
-    threads) echo '--help --cores --mem --entry --reads --writes --dump --show --budget --burst --events --seed --why --stats --json --record --words --color' ;;
+    threads) echo '--help --cores --mem --entry --reads --writes --store-buffer --dump --show --budget --burst --events --seed --why --stats --json --record --words --color' ;;
     replay) echo '--help --cores --mem --entry --reads --writes --store-buffer --dump --show --steps --schedule --why --in-turn --random --events --seed --limit --record --json --words --color' ;;
     debug) echo '--help --cores --mem --entry --reads --writes --store-buffer --dump --steps --schedule --in-turn --random --events --seed --limit --words --color' ;;
     gdb) echo '--help --cores --mem --entry --reads --writes --store-buffer --steps --schedule --in-turn --random --events --seed --limit --words --color' ;;
@@ -14,8 +14,8 @@ _elide_options() {
     outcomes) echo '--help --cores --mem --entry --reads --writes --store-buffer --show --names --events --limit --check --forbid --stop --stuck --page --json --words --color' ;;
     test) echo '--help --list --jobs --json --words --color' ;;
     stats) echo '--help --cores --mem --entry --reads --writes --store-buffer --steps --schedule --in-turn --random --events --seed --limit --record --json --words --color' ;;
-    draw) echo '--help --cores --mem --entry --reads --writes --show --steps --schedule --in-turn --random --events --seed --limit --record --from --to --core --words --color' ;;
-    page) echo '--help --cores --mem --entry --reads --writes --show --steps --schedule --in-turn --random --events --seed --limit --from --to --note --title --output --words --color' ;;
+    draw) echo '--help --cores --mem --entry --reads --writes --store-buffer --show --steps --schedule --in-turn --random --events --seed --limit --record --from --to --core --words --color' ;;
+    page) echo '--help --cores --mem --entry --reads --writes --store-buffer --show --steps --schedule --in-turn --random --events --seed --limit --from --to --note --title --output --words --color' ;;
     explain) echo '--help --words --color' ;;
     esac
 }
@@ -86,6 +86,7 @@ _elide_value() {
     'threads --entry' | \
     'threads --reads' | \
     'threads --writes' | \
+    'threads --store-buffer' | \
     'threads --dump' | \
     'threads --show' | \
     'threads --budget' | \
@@ -172,6 +173,7 @@ _elide_value() {
     'draw --entry' | \
     'draw --reads' | \
     'draw --writes' | \
+    'draw --store-buffer' | \
     'draw --show' | \
     'draw --steps' | \
     'draw --random' | \
@@ -186,6 +188,7 @@ _elide_value() {
     'page --entry' | \
     'page --reads' | \
     'page --writes' | \
+    'page --store-buffer' | \
     'page --show' | \
     'page --steps' | \
     'page --random' | \
