@@ -1,8 +1,9 @@
-//! A line on a terminal that tells how far long work is.
+//! A line on a terminal that tells how far long work is, and hints that stay there.
 //!
-//! [`ProgressLine`] writes nothing in the program's first two seconds, then five times a second at most, and clears the
-//! line when the work ends, so that an answer stands on a line of its own. Without a terminal or a clock it stays
-//! silent. A failure of the device is passed over. When it is told is up to the commands.
+//! [`ProgressLine`] writes nothing of the work in the program's first two seconds, then five times a second at most,
+//! and clears the line when the work ends, so that an answer stands on a line of its own. A hint is a line that stays.
+//! Without a terminal it stays silent, and without a clock it tells no work. A failure of the device is passed over.
+//! When it is told is up to the commands.
 
 use arrayvec::ArrayString;
 use elide_device::Progress;
@@ -28,6 +29,7 @@ type Line = ArrayString<160>;
 pub struct ProgressLine<'a, C, E> {
     clock: &'a C,
     err: E,
+    is_terminal: bool,
     // When the work began and the line was last written; none where it is no terminal, or the clock cannot be read.
     begun: Option<Instant>,
     written: Option<Instant>,
@@ -44,6 +46,7 @@ impl<'a, C: Clock, E: Out> ProgressLine<'a, C, E> {
         ProgressLine {
             clock,
             err,
+            is_terminal,
             begun,
             written: None,
         }
@@ -83,6 +86,17 @@ impl<C: Clock, E: Out> Progress for ProgressLine<'_, C, E> {
             let _ = self.err.put(CLEAR);
         }
         self.written = None;
+    }
+
+    fn hint(&mut self, line: &str) {
+        if !self.is_terminal {
+            return;
+        }
+        // Where a line of the work stands, it goes.
+        self.end();
+        let _ = self.err.put(b"elide: hint: ");
+        let _ = self.err.put(line.as_bytes());
+        let _ = self.err.put(b"\n");
     }
 }
 
