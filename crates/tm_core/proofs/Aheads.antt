@@ -16,6 +16,7 @@ use Rattle.tm_model.specs.State.{Closed, Core, Midway, Opened, Pending}
 use Rattle.tm_model.specs.Steps.{must_wait, needs_none, needs_room, store_of, store_outside}
 use Rattle.tm_core.specs.declared.ahead.Ahead.{Ahead}
 use Rattle.tm_core.specs.declared.ahead.Ahead.TheVariants as ahead
+use Rattle.tm_core.specs.declared.buffering.Wait.TheVariants as wait
 use Rattle.tm_core.specs.Representation.{parts_setting, setting_with}
 use Rattle.tm_core.specs.StepRefinement.{StepResult, finished, grows, loaded, quit, ran, ran_inside}
 use Rattle.tm_core.specs.StepRefinement.{ran_on, seen, stayed, stepped, stored}
@@ -70,12 +71,17 @@ module _ (k : Setting) (m : List ℕ) where
 
   pub ahead_none : (p : Pending) (core : Core) (r : StepResult) → needs_none k core r.outcome ≡ true
       → store_outside k m core r.outcome ≡ None → (x : Ahead)
-      → x ≡ (if length p == 0 then ahead.Goes else ahead.Waits) → IsForeseen k m p core r x
+      → x ≡ (if length p == 0 then ahead.Goes else ahead.Waits wait.ForNone) → IsForeseen k m p core r x
   ahead_none [] core r needs none x is = subst (IsForeseen k m [] core r) (sym is) (refl, none)
   ahead_none (oldest ∷ younger) core r needs none x is =
       subst (IsForeseen k m (oldest ∷ younger) core r)
-      (sym (is ∙ ap (λ t. if t then ahead.Goes else ahead.Waits) (ne_eqb (length (oldest ∷ younger)) 0 (omega arith))))
-      (ap (λ t. t || needs_room k (oldest ∷ younger) (store_outside k m core r.outcome)) needs)
+      (sym (is
+      ∙ ap (λ t. if t then ahead.Goes else ahead.Waits wait.ForNone)
+      (ne_eqb (length (oldest ∷ younger)) 0 (omega arith))))
+      (record {
+        waits = ap (λ t. t || needs_room k (oldest ∷ younger) (store_outside k m core r.outcome)) needs;
+        needs = needs;
+      })
 
   has_place : (p : Pending) (core : Core) (o : Outcome) (w : Store) → needs_none k core o ≡ false
       → store_outside k m core o ≡ Some w → length p < k.store_buffer → must_wait k m p core o ≡ false
@@ -103,7 +109,8 @@ module _ (k : Setting) (m : List ℕ) where
       (x : Ahead) → (w ≡ None → x ≡ ahead.Goes) →
       ((made : Store) → w ≡ Some made → length p < k.store_buffer
       → x ≡ ahead.Stores (record { regs = regs; access = access; store = made })) →
-      ((made : Store) → w ≡ Some made → k.store_buffer ≤ length p → x ≡ ahead.Waits) → IsForeseen k m p core r x
+      ((made : Store) → w ≡ Some made → k.store_buffer ≤ length p → x ≡ ahead.Waits wait.ForRoom)
+      → IsForeseen k m p core r x
   ahead_room p core r regs access None free plain store view loads within storable some x none room full =
       subst (IsForeseen k m p core r) (sym (none refl)) (ahead_goes p core r free store)
   ahead_room p core r regs access (Some w) free plain store view loads within storable some x none room full =
@@ -119,7 +126,7 @@ module _ (k : Setting) (m : List ℕ) where
         room = here;
       }))
       (λ (past : k.store_buffer ≤ length p). subst (IsForeseen k m p core r) (sym (full w refl past))
-      (has_no_place p core r.outcome w free store past some))
+      (record { waits = has_no_place p core r.outcome w free store past some; needs = free }))
       (cases_lt (length p) k.store_buffer)
 
   -- ---- of a running core
@@ -153,7 +160,8 @@ module _ (k : Setting) (m : List ℕ) where
 
     pub fence_ahead : (t : Regs) (w : Option Store) → outside_at k v.base m ≡ Goes t w
         → k.takes_two_steps v.base ≡ false → k.waits v.base ≡ true → (x : Ahead)
-        → x ≡ (if length p == 0 then ahead.Goes else ahead.Waits) → IsForeseen k m p closed (stepped k m v Running) x
+        → x ≡ (if length p == 0 then ahead.Goes else ahead.Waits wait.ForNone)
+        → IsForeseen k m p closed (stepped k m v Running) x
     fence_ahead t w is one waits x told =
         subst (λ (r : StepResult). IsForeseen k m p closed r x) (sym (one_is t w is one))
         (ahead_none p closed (stored m (k.load_of v.base) t w) waits
@@ -166,7 +174,7 @@ module _ (k : Setting) (m : List ℕ) where
         (x : Ahead) → (w ≡ None → x ≡ ahead.Goes) →
         ((made : Store) → w ≡ Some made → length p < k.store_buffer
         → x ≡ ahead.Stores (record { regs = t; access = access; store = made })) →
-        ((made : Store) → w ≡ Some made → k.store_buffer ≤ length p → x ≡ ahead.Waits)
+        ((made : Store) → w ≡ Some made → k.store_buffer ≤ length p → x ≡ ahead.Waits wait.ForRoom)
         → IsForeseen k m p closed (stepped k m v Running) x
     store_ahead t access w is one waits loads within storable some x none room full =
         subst (λ (r : StepResult). IsForeseen k m p closed r x) (sym (one_is t w is one))
@@ -181,7 +189,8 @@ module _ (k : Setting) (m : List ℕ) where
         (ahead_goes p closed (ran k m v.base (Begins t)) refl refl)
 
     pub stop_ahead : (x : Ahead) (why : Rattle.tm_core.specs.Types.Stop) → outside_at k v.base m ≡ Stops why
-        → x ≡ (if length p == 0 then ahead.Goes else ahead.Waits) → IsForeseen k m p closed (stepped k m v Running) x
+        → x ≡ (if length p == 0 then ahead.Goes else ahead.Waits wait.ForNone)
+        → IsForeseen k m p closed (stepped k m v Running) x
     stop_ahead x why is told =
         subst (λ (r : StepResult). IsForeseen k m p closed r x) (sym (ran_is (Stops why) is))
         (ahead_none p closed (ran k m v.base (Stops why)) refl refl x told)
@@ -196,7 +205,7 @@ module _ (k : Setting) (m : List ℕ) where
         (x : Ahead) → (w ≡ None → x ≡ ahead.Goes) →
         ((made : Store) → w ≡ Some made → length p < k.store_buffer
         → x ≡ ahead.Stores (record { regs = t; access = None; store = made })) →
-        ((made : Store) → w ≡ Some made → k.store_buffer ≤ length p → x ≡ ahead.Waits)
+        ((made : Store) → w ≡ Some made → k.store_buffer ≤ length p → x ≡ ahead.Waits wait.ForRoom)
         → IsForeseen k m p midway (stepped k m v Mid) x
     second_ahead t w is storable some x none room full =
         subst (λ (r : StepResult). IsForeseen k m p midway r x) (sym (ap (ran_on m v) is))

@@ -1,6 +1,6 @@
 -- What is told of a step of a core of which stores may be pending: from what is told of its instruction on memory as
 -- the core sees it, and from what is foreseen of the step.
-use Rattle.std.proofs.Common.{◌≡◌, ℕ, ◌+◌, ◌<◌, ◌≤◌, List, [], ◌∷◌, length, Some, None, refl}
+use Rattle.std.proofs.Common.{◌≡◌, ℕ, ◌+◌, ◌<◌, ◌≤◌, true, List, [], ◌∷◌, length, Some, None, refl}
 use Rattle.std.proofs.Common.{sym, ap, ◌∙◌, drop, get_or, subst, arith}
 use Rattle.std.specs.Prelude.{All, IfSome, if◌then◌else◌}
 use Rattle.std.proofs.lemmas.Bool.{eq-eqb}
@@ -127,7 +127,7 @@ module _ (code : List ℕ) (base most : ℕ) (m : List ℕ) (a : Content) (cpus 
 
     -- the oldest store reaches memory in its place
     pub waits_told : (oldest : Store) → oldest ≡ get_or p 0 oldest → All (IsStorable (length m)) p → 0 < length p
-        → IsForeseen k sees p core r ahead.Waits
+        → must_wait k sees p core r.outcome ≡ true
         → IsForetold k m p own
         (record { touched = Accesses None (Some oldest); reach = told.reach; reason = told.reason })
     waits_told oldest first storable some waits =

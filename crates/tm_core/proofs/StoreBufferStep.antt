@@ -100,7 +100,7 @@ owed_alone (Some (event.Abort by)) k m p (Halted s x) dx none = refl
 
 -- ---- a core like the one that is shown
 
-abbrev IsLike : Core → Core → Type 0
+abbrev pub IsLike : Core → Core → Type 0
 IsLike x y = (y ≡ x) ⊎ ((s : Regs) × (n : ℕ) × (x ≡ Opened s n) × (y ≡ Opened s 0))
 
 like_midway : (s : Regs) (value : ℕ) (o : OutsideResult) (v : View) → view_midway s value o ≡ Some v
@@ -137,7 +137,7 @@ same_wait k m p x y o like =
     open_waits s n [] = refl
     open_waits s n (oldest ∷ younger) = refl
 
-same_store : (k : Setting) (m : List ℕ) (x y : Core) (o : Outcome) → IsLike x y
+pub same_store : (k : Setting) (m : List ℕ) (x y : Core) (o : Outcome) → IsLike x y
     → store_buffered k m y o ≡ store_buffered k m x o
 same_store k m x y o like =
     ⊎_elim (λ (e : y ≡ x). ap (λ z. store_buffered k m z o) e)

@@ -20,6 +20,7 @@ use Rattle.tm_model.specs.declared.outcome.Event.TheVariants as event
 use Rattle.tm_core.specs.declared.ahead.Ahead.{Ahead}
 use Rattle.tm_core.specs.declared.ahead.Ahead.TheVariants as ahead
 use Rattle.tm_core.specs.declared.ahead.Pends.{Pends}
+use Rattle.tm_core.specs.declared.buffering.Wait.{Wait}
 use Rattle.tm_core.specs.declared.cpu.Cpu.{Cpu}
 use Rattle.tm_core.specs.PendingStep.{PendingResult, core_like, drain_result, drains, settles, stepped_pending}
 use Rattle.tm_core.specs.PendingStep.{touched_now}
@@ -106,9 +107,10 @@ pub waits_for : (k : Setting) (m : List ℕ) (p : Pending) (core : Core) (o : Ou
 waits_for k m [] core o waits = absurd (true≢false (sym waits))
 waits_for k m (oldest ∷ younger) core o waits = omega arith
 
-pub foreseen_waits : (k : Setting) (m : List ℕ) (p : Pending) (v : View) (mode : CoreState)
-    → IsAhead k m p v mode ahead.Waits → 0 < length p
-foreseen_waits k m p v mode waits = waits_for k m p (core_like v mode) (stepped k m v mode).outcome waits
+pub foreseen_waits : (k : Setting) (m : List ℕ) (p : Pending) (v : View) (mode : CoreState) (for_this : Wait)
+    → IsAhead k m p v mode (ahead.Waits for_this) → 0 < length p
+foreseen_waits k m p v mode for_this awaited =
+    waits_for k m p (core_like v mode) (stepped k m v mode).outcome awaited.waits
 
 -- the oldest, and those behind it
 pub oldest_of : (p p2 : Pending) (oldest : Store) → 0 < length p → oldest ≡ get_or p 0 oldest → p2 ≡ drop 1 p
@@ -239,7 +241,7 @@ module _ (k : Setting) (m : List ℕ) (p : Pending) (v : View) where
       record { outcome_is = refl; new_memory = memory; left = refl; each = each }
 
   pub leaves_waits : (oldest : Store) (younger : Pending) (m2 : List ℕ) (views views2 : ℕ → View) (count c : ℕ)
-      → IsForeseen k sees p core r ahead.Waits → p ≡ oldest ∷ younger → m2 ≡ with_store m oldest
+      → must_wait k sees p core r.outcome ≡ true → p ≡ oldest ∷ younger → m2 ≡ with_store m oldest
       → ((j : ℕ) → j < count → views2 j ≡ (if nat_eq j c then v
       else view_after_hit (addresses_touched Write (stored_addresses (stores_of (Some oldest)))) (views j)))
       → Leaves (stepped_pending None k m p v) m2 younger views views2 count c Drained
@@ -416,12 +418,12 @@ module _ (code : List ℕ) (base most : ℕ) (m : List ℕ) (a b : Content) (cpu
       views_behind a b cpus cpus2 c (cpu_at cpus c) touched below (hits_as_set a b cpus cpus2 c touched drains.hits)
 
   -- in the place of a step that waits
-  pub waits_and_drains : (n m2 : List ℕ) (p2 : Pending) → n ≡ seen_memory m p
-      → IsAhead (rules (length n)) n p own (cpu_at cpus c).state ahead.Waits
+  pub waits_and_drains : (n m2 : List ℕ) (p2 : Pending) (for_this : Wait) → n ≡ seen_memory m p
+      → IsAhead (rules (length n)) n p own (cpu_at cpus c).state (ahead.Waits for_this)
       → Drains m m2 a b cpus cpus2 p p2 c → StepsPending None code base most m m2 a b cpus cpus2 p p2 c Drained
-  waits_and_drains n m2 p2 is foreseen drains = record {
+  waits_and_drains n m2 p2 for_this is foreseen drains = record {
     step = leaves_waits (rules (length m)) m p own drains.oldest p2 m2 (cpu_views a cpus) (cpu_views b cpus2)
-        (length cpus) c (foreseen_at n ahead.Waits is foreseen) drains.was drains.new_memory
+        (length cpus) c (foreseen_at n (ahead.Waits for_this) is foreseen).waits drains.was drains.new_memory
         (drain_views m2 p2 drains);
     held = drain_held m2 p2 drains;
     fixed = drains.hits.fixed;

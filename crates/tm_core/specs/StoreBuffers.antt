@@ -1,18 +1,20 @@
 -- A step of a machine's parts where stores of its core are pending: what is foreseen of it, and what it leaves. It is
 -- no part of what is promised: the proofs show that it is the owed step.
-use Rattle.std.specs.Prelude.{◌≡◌, ℕ, ◌+◌, ◌^◌, ◌<◌, ◌≤◌, false, true, List, ◌∷◌, IfSome, None, Option, Some, length}
+use Rattle.std.specs.Prelude.{◌≡◌, ℕ, ◌+◌, ◌^◌, ◌<◌, ◌≤◌, false, List, ◌∷◌, IfSome, None, Option, Some, length}
 use Rattle.ia_word.specs.Width.{bits_of, bytes_of}
 use Rattle.tm_sets.specs.Content.{Content}
 use Rattle.tm_model.specs.Access.{loaded_addresses, stored_addresses, stores_of}
 use Rattle.tm_model.specs.Conflicts.{addresses_loaded_by}
 use Rattle.tm_model.specs.Setting.{Setting}
 use Rattle.tm_model.specs.Shown.{View, view_outside}
-use Rattle.tm_model.specs.State.{Core, Pending, with_store}
+use Rattle.tm_model.specs.State.{Core, Pending, seen_memory, with_store}
 use Rattle.tm_model.specs.Steps.{must_wait, store_outside}
 use Rattle.tm_core.specs.declared.ahead.Ahead.{Ahead}
 use Rattle.tm_core.specs.declared.ahead.Ahead.TheVariants as ahead
 use Rattle.tm_core.specs.declared.ahead.Pends.{Pends}
+use Rattle.tm_core.specs.declared.buffering.Buffering.{Buffering}
 use Rattle.tm_core.specs.declared.cpu.Cpu.{Cpu}
+use Rattle.tm_core.specs.Buffering.{IsAwaited, IsBuffering}
 use Rattle.tm_core.specs.PendingStep.{PendingResult, core_like, stepped_pending, views_then}
 use Rattle.tm_core.specs.Representation.{IsHeld, cpu_views, kept_at, setting_with}
 use Rattle.tm_core.specs.StepRefinement.{StepResult, addresses_touched, stepped}
@@ -38,7 +40,7 @@ pub record WillPend (setting : Setting) (seen : List ℕ) (pending : Pending) (c
   pub room : length pending < setting.store_buffer
 
 abbrev pub IsForeseen : Setting → List ℕ → Pending → Core → StepResult → Ahead → Type 0
-IsForeseen setting seen pending core result ahead.Waits = must_wait setting seen pending core result.outcome ≡ true
+IsForeseen setting seen pending core result (ahead.Waits wait) = IsAwaited setting seen pending core result.outcome wait
 IsForeseen setting seen pending core result (ahead.Stores pends) = WillPend setting seen pending core result pends
 IsForeseen setting seen pending core result ahead.Goes =
     (must_wait setting seen pending core result.outcome ≡ false)
@@ -48,6 +50,12 @@ IsForeseen setting seen pending core result ahead.Goes =
 abbrev pub IsAhead : Setting → List ℕ → Pending → View → CoreState → Ahead → Type 0
 IsAhead setting seen pending view mode ahead =
     IsForeseen setting seen pending (core_like view mode) (stepped setting seen view mode) ahead
+
+-- the same by what is told of it, of a core of which these stores are pending
+abbrev pub ShowsAhead : Setting → List ℕ → Pending → View → Buffering → Type 0
+ShowsAhead setting memory pending view told =
+    let seen : List ℕ = seen_memory memory pending in
+    IsBuffering setting seen pending (core_like view view.mode) (stepped setting seen view view.mode).outcome told
 
 -- ---- what a step leaves
 

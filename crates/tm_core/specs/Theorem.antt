@@ -3,7 +3,7 @@
 -- which each committed transaction ran alone at its XEND (SDM volume 1, 16.2.1) with no store pending, or it is a
 -- drain, and it has the outcome that is owed. What each of these words means stands in tm_model.
 use Rattle.std.specs.Prelude.{◌≡◌, ℕ, zero, suc, ◌<◌, List, [], ◌∷◌, ◌++◌, All, length, slice_index_or, Option, Some}
-use Rattle.std.specs.Prelude.{None}
+use Rattle.std.specs.Prelude.{None, MatchOption}
 use Rattle.ia_image.specs.Program.{ProgramValue as Program}
 use Rattle.tm_rule.specs.declared.kinds.Stop.{Stop}
 use Rattle.tm_sets.specs.declared.interface.Kind.{Kind}
@@ -99,18 +99,29 @@ pub record IsRun (start now : ShownMachine) (state : State) (doomed : Doomed) (h
 
 -- ---- several steps at once
 
+-- each step is allowed, and owed under no event: each abort has its cause in the program, and a store reaches memory
+-- where the step waits for that
+abbrev pub AreOwedAlone : Setting → State → Doomed → List (ℕ × Outcome) → Type 0
+AreOwedAlone setting state doomed [] = Unit {0}
+AreOwedAlone setting state doomed (taken ∷ history) =
+    IsOwedUnder None setting state doomed taken.0 taken.1
+    × MatchOption (step setting state taken.0 taken.1) ⊥
+    (λ next. AreOwedAlone setting next (doomed_after setting state doomed taken.0 taken.1) history)
+
 -- no core that has stopped goes on
 abbrev pub StayStopped : ShownMachine → ShownMachine → Type 0
 StayStopped before after = (other : ℕ) (stop : Stop) → other < length before.views →
     (view_at before other).mode ≡ AtStop stop → (view_at after other).mode ≡ AtStop stop
 
--- from each state that the machine stands for it takes these steps, none an abort from outside of the program, so that
--- a run goes on with them; no core that has stopped goes on
+-- from each state that the machine stands for it takes these steps, each owed under no event and none told as an abort
+-- from outside of the program, so that a run goes on with them; no core that has stopped goes on
 pub record TakesAll (before after : ShownMachine) (history : List (ℕ × Outcome)) : Type 0 where
   pub same : SameMachine before after
   pub tells : TellNoAbort history
   pub takes : (state : State) (doomed : Doomed) → StandsFor before state doomed →
       TakesSteps before after state doomed history
+  pub alone : (state : State) (doomed : Doomed) → StandsFor before state doomed →
+      AreOwedAlone (machine_setting before) state doomed history
   pub runs : (start : ShownMachine) (state : State) (doomed : Doomed) (earlier : List (ℕ × Outcome)) →
       IsRun start before state doomed earlier → IsRun start after state doomed (earlier ++ history)
   pub stops : StayStopped before after

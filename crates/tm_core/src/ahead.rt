@@ -16,6 +16,7 @@ ghost use Rattle.tm_core.specs.Stepping.{IsInRoom, IsSteppable};
 ghost use Rattle.tm_core.specs.StoreBuffers.{IsAhead};
 ghost use Rattle.tm_core.specs.Types.{Mid, Open, Running, Write};
 
+use crate::buffering::Wait;
 use crate::cpu::Cpu;
 use crate::explain_reason::{by_room, plan, standing};
 use crate::fences::waits;
@@ -42,8 +43,8 @@ pub struct Pends {
 /// What the next step of a core comes to.
 #[derive(Clone, Copy)]
 pub enum Ahead {
-    /// It waits: the oldest store that is pending reaches memory in its place.
-    Waits,
+    /// It waits for this: the oldest store that is pending reaches memory in its place.
+    Waits(Wait),
     /// It stores, and there is room for its store.
     Stores(Pends),
     /// It does not wait, and no store of it is pending behind it.
@@ -52,12 +53,12 @@ pub enum Ahead {
 
 // Of a step that no store may be pending behind.
 fn with_none(pending: &[Store]) -> Ahead
-    ensures { result ≡ (if length pending.now == 0 then Ahead.Goes else Ahead.Waits) }
+    ensures { result ≡ (if length pending.now == 0 then Ahead.Goes else Ahead.Waits Wait.ForNone) }
 {
     if pending.is_empty() {
         Ahead::Goes
     } else {
-        Ahead::Waits
+        Ahead::Waits(Wait::ForNone)
     }
 }
 
@@ -72,7 +73,8 @@ fn with_room(
     ensures none { store ≡ None → result ≡ Ahead.Goes }
     ensures room { (made : Store) → store ≡ Some made → length pending.now < most →
         result ≡ Ahead.Stores (record { regs = regs; access = access; store = made }) }
-    ensures full { (made : Store) → store ≡ Some made → most ≤ length pending.now → result ≡ Ahead.Waits }
+    ensures full { (made : Store) → store ≡ Some made → most ≤ length pending.now →
+        result ≡ Ahead.Waits Wait.ForRoom }
 {
     match store {
         Some(store) if pending.len() < usize::from(most) => Ahead::Stores(Pends {
@@ -80,7 +82,7 @@ fn with_room(
             access,
             store,
         }),
-        Some(_store) => Ahead::Waits,
+        Some(_store) => Ahead::Waits(Wait::ForRoom),
         None => Ahead::Goes,
     }
 }

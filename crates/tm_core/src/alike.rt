@@ -1,19 +1,19 @@
-//! Whether two machines show a core alike: [`Machine::is_core_alike`].
+//! Whether two machines show a core alike: [`Machine::is_core_alike`], and [`Machine::is_pending_alike`].
 //!
 //! What the core is doing and its registers before a transaction are compared first; of the rest only what that
 //! makes it show: the kept value between two steps, and in a transaction the registers now, the bytes and the
-//! lines. Memory, the other cores and the stores that are pending are not compared here: [`Machine::pending`] tells
-//! the last.
+//! lines. Memory and the other cores are not compared here, and the stores that are pending by a call of their own.
 
 ghost use Rattle.std.specs.Prelude.{◌≡◌, ◌↔◌, ◌<◌, IsTrue, length};
 ghost use Rattle.tm_model.specs.Setting.{Setting};
 ghost use Rattle.tm_sets.specs.declared.interface.Kind.{Kind};
 ghost use Rattle.tm_core.specs.Representation.{Sane, cpu_view};
-ghost use Rattle.tm_core.specs.Theorem.{view_at};
+ghost use Rattle.tm_core.specs.Theorem.{pending_at, view_at};
 
 use crate::cpu::Cpu;
 use crate::machine::Machine;
 use crate::unbuffered::Unbuffered;
+use ia_exec::Store;
 use tm_model::CoreState;
 use tm_sets::Sets;
 
@@ -59,6 +59,29 @@ impl<S: Sets> Machine<S> {
     {
         self.unbuffered.is_core_alike(&other.unbuffered, core)
     }
+
+    /// Whether the same stores of a core are pending in another machine, in the same order. Of a core that there is not
+    /// none are pending. Takes no memory.
+    pub fn is_pending_alike(&self, other: &Machine<S>, core: u8) -> bool
+        ensures { IsTrue result ↔ (pending_at self.now core ≡ pending_at other.now core) }
+    {
+        are_same(self.pending_of(core), other.pending_of(core))
+    }
+}
+
+// Whether these are the same stores, in the same order.
+fn are_same(these: &[Store], those: &[Store]) -> bool
+    ensures { IsTrue result ↔ (these.now ≡ those.now) }
+{
+    if these.len() != those.len() {
+        return false;
+    }
+    for index in 0..these.len() {
+        if these[index] != those[index] {
+            return false;
+        }
+    }
+    true
 }
 
 impl<S: Sets> Unbuffered<S> {

@@ -45,11 +45,34 @@ pub fn foretell_pending<S: Sets>(
     ensures { IsForetold (setting_with listing.now.code.bytes.now listing.now.code.base (length memory.now)
         (S.content sets.now) most) memory.now pending.now (cpu_views (S.content sets.now) cpus.now c) result }
 {
+    if most > 0 {
+        return foretell_buffered(listing, memory, cpus, sets, c, pending, most);
+    }
+    let seen = SeenMemory::of(memory, pending);
+    foretell(listing, &seen, cpus, sets, c)
+}
+
+// The same where there is room for a store.
+#[inline(never)]
+fn foretell_buffered<S: Sets>(
+    listing: &Listing,
+    memory: &[u8],
+    cpus: &[Cpu],
+    sets: &S,
+    c: u8,
+    pending: &[Store],
+    most: u8,
+) -> Foretold
+    requires parts { IsSteppable listing.now.code.bytes.now listing.now.code.base memory.now (S.content sets.now)
+        cpus.now }
+    requires exists { c < length cpus.now }
+    requires storable { All (IsStorable (length memory.now)) pending.now }
+    requires some { 0 < most }
+    ensures { IsForetold (setting_with listing.now.code.bytes.now listing.now.code.base (length memory.now)
+        (S.content sets.now) most) memory.now pending.now (cpu_views (S.content sets.now) cpus.now c) result }
+{
     let seen = SeenMemory::of(memory, pending);
     let told = foretell(listing, &seen, cpus, sets, c);
-    if most == 0 {
-        return told;
-    }
     match foresee(&listing.code, &seen, cpus, sets, c, pending, most) {
         Ahead::Goes => told,
         Ahead::Stores(step) => Foretold {
@@ -57,7 +80,7 @@ pub fn foretell_pending<S: Sets>(
             reach: told.reach,
             reason: told.reason,
         },
-        Ahead::Waits => Foretold {
+        Ahead::Waits(_wait) => Foretold {
             touched: Touches::Accesses(None, Some(store_at(pending, 0))),
             reach: told.reach,
             reason: told.reason,

@@ -31,7 +31,7 @@
 //! pending, a step goes by what it comes to on memory as its core sees it (`ahead`): it is made on that memory, over
 //! which the pending stores are laid for its time (`laid`), or its store is pending from then on, or it waits and is
 //! the drain of the oldest (`store_buffer`, `specs/StoreBuffers.antt`, `specs/Buffered.antt`). `Machine::pending` tells
-//! the stores of a core that are pending.
+//! the stores of a core that are pending, and `Machine::ahead` what its next step does with them (`buffering`).
 //!
 //! Stands on `tm_rule` (one instruction), `tm_status`, `tm_sets` (read and write sets), `tm_buffer` (a transaction's
 //! bytes) and `ia_image` (programs). Memory is asked for only where a machine is made and by the answers of `run` and
@@ -46,6 +46,7 @@ mod alone;
 mod body;
 mod boundary;
 mod buffered_steps;
+mod buffering;
 mod conflict;
 mod copy_lines;
 mod counts;
@@ -84,6 +85,7 @@ mod unbuffered;
 mod under;
 mod usual;
 
+pub use buffering::{Buffering, Wait};
 pub use explain_laws::{hits_condemn, reasons_are_of_aborts};
 pub use fault::{MachineFault, NoSuchCore, RunFault};
 pub use laws::transactions_are_as_they_went;

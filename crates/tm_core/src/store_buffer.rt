@@ -105,7 +105,7 @@ pub fn step_pending<S: Sets>(
             pend(step, cpus, sets, c, pending);
             Outcome::Plain
         }
-        Ahead::Waits => {
+        Ahead::Waits(_wait) => {
             drain_oldest(memory, cpus, sets, c, pending);
             Outcome::Drained
         }

@@ -5,7 +5,7 @@ use ia_exec::Store;
 use ia_word::Width;
 use std::alloc::Global;
 use std::process::Abort;
-use tm_core::{Limits, Machine};
+use tm_core::{Buffering, Limits, Machine, NoSuchCore, Wait};
 use tm_model::Outcome::{Aborted, Begun, Drained, Idle, Inside, Plain, Stopped};
 use tm_model::{CoreState, Event, Hit, Outcome, Pick};
 use tm_rule::Stop;
@@ -16,6 +16,10 @@ use tm_sets::Kind;
 const CODE: &[u8] = b"\xc7\x05\x00\x10\x00\x00\x01\x00\x00\x00\xa1\x40\x10\x00\x00\x0f\xae\xf0\xf4\
     \xc7\xf8\x0f\x00\x00\x00\xa1\x00\x10\x00\x00\x40\xa3\x00\x10\x00\x00\x0f\x01\xd5\xf4\xf4";
 
+/// Twice mov dword [1000h], 1; hlt.
+const TWICE: &[u8] =
+    b"\xc7\x05\x00\x10\x00\x00\x01\x00\x00\x00\xc7\x05\x00\x10\x00\x00\x01\x00\x00\x00\xf4";
+
 /// The store of core 0.
 const STORE: Store = Store {
     addr: 0x1000,
@@ -24,12 +28,22 @@ const STORE: Store = Store {
 };
 
 fn machine_of(rt: &impl Abort, alloc: Global, stores: u32) -> Machine {
+    machine_with(rt, alloc, CODE, &[0x100, 0x113], stores)
+}
+
+fn machine_with(
+    rt: &impl Abort,
+    alloc: Global,
+    code: &[u8],
+    entries: &[u32],
+    stores: u32,
+) -> Machine {
     let limits = Limits {
         read_lines: 16,
         write_lines: 16,
         stores,
     };
-    let program = program(rt, alloc, CODE, &[0x100, 0x113]);
+    let program = program(rt, alloc, code, entries);
     Machine::new(alloc, &program, limits).expect(rt, "makes")
 }
 
@@ -120,4 +134,39 @@ fn a_machine_is_taken_back(rt: HostRuntime) {
     assert_eq!(rt; machine.steps_alone(0, 6), Ok(6));
     assert_eq!(rt; machine.state(0), Ok(CoreState::Stopped(Stop::Halt)));
     assert_eq!(rt; bytes_of(&machine), Some((1, 1, 1)));
+}
+
+// What a step does with the stores of its core is told before it.
+#[test]
+fn a_step_told_ahead(rt: HostRuntime) {
+    let mut machine = machine_with(&rt, rt.alloc(), TWICE, &[0x100], 1);
+    for (told, outcome) in [
+        (Buffering::Pends, Plain),
+        (Buffering::Waits(Wait::ForRoom), Drained),
+        (Buffering::Pends, Plain),
+        (Buffering::Waits(Wait::ForNone), Drained),
+        (Buffering::Goes, Stopped(Stop::Halt)),
+        (Buffering::Goes, Idle),
+    ] {
+        assert_eq!(&rt; machine.ahead(0), Ok(told));
+        assert_eq!(&rt; machine.step(0), Ok(outcome));
+    }
+    assert_eq!(rt; machine.ahead(1), Err(NoSuchCore));
+    // Where none may be pending, each step goes.
+    let at_once = machine_with(&rt, rt.alloc(), TWICE, &[0x100], 0);
+    assert_eq!(rt; at_once.ahead(0), Ok(Buffering::Goes));
+    assert_eq!(rt; at_once.ahead(1), Err(NoSuchCore));
+}
+
+#[test]
+fn stores_that_are_pending_alike(rt: HostRuntime) {
+    let mut one = machine_of(&rt, rt.alloc(), 2);
+    let mut other = machine_of(&rt, rt.alloc(), 1);
+    assert!(rt; one.is_pending_alike(&other, 0));
+    assert_eq!(rt; one.step(0), Ok(Plain));
+    assert!(rt; !one.is_pending_alike(&other, 0));
+    assert!(rt; one.is_pending_alike(&other, 1));
+    assert!(rt; one.is_pending_alike(&other, 2));
+    assert_eq!(rt; other.step(0), Ok(Plain));
+    assert!(rt; one.is_pending_alike(&other, 0));
 }

@@ -127,7 +127,8 @@ drain_oldest-requires g c =
       some = subst (λ (q : Pending). 0 < length q) c.deref-2.ensures.value
           (foreseen_waits
           (setting_with c.args.listing.now.code.bytes.now c.args.listing.now.code.base (length n) a c.args.most) n
-          c.deref-2.result.now (cpu_views a cpus c.args.c) (cpu_at cpus c.args.c).state c.in-Waits.ensures);
+          c.deref-2.result.now (cpu_views a cpus c.args.c) (cpu_at cpus c.args.c).state c.in-Waits._wait
+          c.in-Waits.ensures);
       storable = c.requires.storable;
     }
 
@@ -142,9 +143,9 @@ returns-in-Waits-clause-step g c =
     let p : Pending = c.args.pending.now.items in
     waits_and_drains code base c.args.most m a (g.S.Sets.content c.drain_oldest.new.sets) cpus
     c.drain_oldest.new.cpus p c.args.c c.requires.parts c.requires.exists n c.drain_oldest.new.memory
-    c.drain_oldest.new.pending.items (c.of-seen.ensures ∙ ap (seen_memory m) c.deref.ensures.value)
+    c.drain_oldest.new.pending.items c.in-Waits._wait (c.of-seen.ensures ∙ ap (seen_memory m) c.deref.ensures.value)
     (subst (λ q. IsAhead (setting_with code base (length n) a c.args.most) n q (cpu_views a cpus c.args.c)
-    (cpu_at cpus c.args.c).state ahead.Waits) c.deref-2.ensures.value c.in-Waits.ensures)
+    (cpu_at cpus c.args.c).state (ahead.Waits c.in-Waits._wait)) c.deref-2.ensures.value c.in-Waits.ensures)
     c.drain_oldest.ensures.drains
 
 pub returns-in-Waits-clause-storable : goal.returns-in-Waits-clause-storable
