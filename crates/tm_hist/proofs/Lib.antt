@@ -10,6 +10,7 @@ pub mod Stops
 pub mod StopsDrained
 pub mod Idles
 pub mod Boards
+mod OwedAlone
 pub mod Pushes
 pub mod UnderEvents
 pub mod PendingBoards

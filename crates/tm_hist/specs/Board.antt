@@ -16,7 +16,7 @@ use Rattle.tm_model.specs.Runs.{AreOwed, IsOwedUnder, TellNoAbort, doomed_at_end
 use Rattle.tm_model.specs.Setting.{Setting, program_setting}
 use Rattle.tm_model.specs.State.{Pending, State, opening_state}
 use Rattle.tm_model.specs.Steps.{run}
-use Rattle.tm_core.specs.Theorem.{IsRun, ShownMachine as Machine, StandsFor, machine_setting}
+use Rattle.tm_core.specs.Theorem.{AreOwedAlone, IsRun, ShownMachine as Machine, StandsFor, machine_setting}
 use Rattle.tm_hist.specs.Machine.{shown_state}
 
 -- what contracts see of a board: the program, how many lines a transaction may touch, how many steps there may be,
@@ -123,6 +123,13 @@ IsOwedNext event board core outcome =
     IsOwedUnder event (board_setting board) end
     (doomed_at_end (board_setting board) (opening_state board.program) (λ _. None) board.history) core outcome
 
+-- so are the outcomes of these steps, each under no event: a store reaches memory where the step waits for that
+abbrev pub AreOwedNext : ShownBoard → List (ℕ × Outcome) → Type 0
+AreOwedNext board steps =
+    (end : State) → run (board_setting board) (opening_state board.program) board.history ≡ Some end →
+    AreOwedAlone (board_setting board) end
+    (doomed_at_end (board_setting board) (opening_state board.program) (λ _. None) board.history) steps
+
 -- The same by what a core showed that had no store pending: its transaction is aborted at the depth that it had, and
 -- anywhere else nothing is told of the event (SDM volume 1, 16.3.8), nor of a drain.
 abbrev pub TellsAsShown : Event → CoreState → Outcome → Type 0
@@ -145,13 +152,14 @@ TellsOf event outcome = (event_told outcome ≡ None) ⊎ ((event_told outcome �
 abbrev pub pairs_behind : ShownBoard → ShownBoard → List (ℕ × Outcome)
 pairs_behind old new = drop (length old.history) new.history
 
--- so many steps of a core led from one board to the other, none of them idle or aborted from outside of the program,
--- and none where the core had stopped
+-- so many steps of a core led from one board to the other, each owed under no event, none of them idle or aborted from
+-- outside of the program, and none where the core had stopped
 pub record AreSteps (old new : ShownBoard) (core made : ℕ) : Type 0 where
   pub same : SameBoard old new
   pub history : new.history ≡ old.history ++ pairs_behind old new
   pub count : length (pairs_behind old new) ≡ made
   pub own : All (λ (pair : ℕ × Outcome). (pair.0 ≡ core) × (pair.1 ≢ Idle)) (pairs_behind old new)
+  pub owed : AreOwedNext old (pairs_behind old new)
   pub alone : TellNoAbort (pairs_behind old new)
   pub stops : (other : ℕ) → IsStopped old other → IsStopped new other
   pub stopped : IsStopped old core → made ≡ 0

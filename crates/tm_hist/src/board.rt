@@ -12,8 +12,8 @@ ghost use Rattle.tm_core.specs.AtOnce.{IsDoneOnRegisters};
 ghost use Rattle.tm_core.specs.Machine.{bad_limits};
 ghost use Rattle.tm_core.specs.Theorem.{pending_at};
 ghost use Rattle.tm_model.specs.Runs.{event_told, is_aborted_by, picks_of};
-ghost use Rattle.tm_hist.specs.Board.{AreSteps, IsFull, IsHistory, IsNew, IsOwedNext, IsStopped, SameBoard};
-ghost use Rattle.tm_hist.specs.Board.{TellsOf, TellsWithPending, bad_limit};
+ghost use Rattle.tm_hist.specs.Board.{AreOwedNext, AreSteps, IsFull, IsHistory, IsNew, IsOwedNext, IsStopped};
+ghost use Rattle.tm_hist.specs.Board.{SameBoard, TellsOf, TellsWithPending, bad_limit};
 ghost use Rattle.tm_hist.specs.BoardFaults.{board_code, step_code};
 ghost use Rattle.tm_hist.specs.History.{pairs_of};
 ghost use Rattle.tm_hist.specs.Machine.{shown_state};
@@ -205,6 +205,7 @@ impl Board {
         ensures same { SameBoard self.old self.new }
         ensures ok { IfOk result (λ outcome. self.new.history ≡ self.old.history ++ (core, outcome) ∷ []) }
         ensures owed { IfOk result (λ outcome. IsOwedNext None self.old core outcome) }
+        ensures next { IfOk result (λ outcome. AreOwedNext self.old ((core, outcome) ∷ [])) }
         ensures no_abort { IfOk result (λ outcome. is_aborted_by outcome ≡ false) }
         ensures alone { self.old.machine.store_buffer ≡ 0 → IfOk result (λ outcome. event_told outcome ≡ None) }
         ensures stops { (k : ℕ) → IsStopped self.old k → IsStopped self.new k }
@@ -284,8 +285,8 @@ impl Board {
     }
 
     /// Up to so many steps of a core, each of them one more pair of the history, and how many they were: fewer only
-    /// where the core has stopped or the history is full. So none of them is idle, and none is aborted from outside of
-    /// the program. Takes no memory.
+    /// where the core has stopped or the history is full. So none of them is idle; each is owed under no event, so none
+    /// is aborted from outside of the program, and a store drains only where the step waits. Takes no memory.
     pub fn steps(&mut self, core: u8, most: u32) -> u32
         requires { core < length self.old.program.entries }
         ensures most { result ≤ most }

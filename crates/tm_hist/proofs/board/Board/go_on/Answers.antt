@@ -14,8 +14,8 @@ invariant_of-self c =
 pub returns-clause-made : goal.returns-clause-made
 returns-clause-made c =
     let e = c.steps_on_registers-count.ensures in
-    plain_made c.steps_on_registers-count.new.self c.self.view_is c.args.core c.steps_on_registers-count.result e.steps
-    c.push_plain.ensures.pairs e.running
+    plain_made c.steps_on_registers-count.new.self c.self.view_is c.args.core c.steps_on_registers-count.result
+    c.self.invariant e.steps c.push_plain.ensures.pairs e.running
 
 pub returns-clause-fewer : goal.returns-clause-fewer
 returns-clause-fewer c less running =

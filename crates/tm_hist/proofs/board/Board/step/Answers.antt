@@ -1,4 +1,4 @@
-use Rattle.std.proofs.Common.{◌≡◌, ◌∙◌, [], ap, false, map, None, ℕ, refl, subst}
+use Rattle.std.proofs.Common.{◌≡◌, ◌∙◌, [], ◌∷◌, ap, false, map, None, ℕ, refl, subst}
 use Rattle.std.specs.Prelude.{◌↔◌}
 use Rattle.std.proofs.lemmas.List.Elements.{All-head}
 use Rattle.tm_model.specs.Runs.{doomed_at_end, is_aborted_by}
@@ -6,10 +6,11 @@ use Rattle.tm_model.specs.declared.outcome.Outcome.{Outcome}
 use Rattle.tm_model.specs.State.{opening_state}
 use Rattle.tm_core.specs.Theorem.{machine_setting}
 use Rattle.tm_model.specs.declared.outcome.Outcome.TheVariants.{Idle}
-use Rattle.tm_hist.specs.Board.{IsOwedNext, IsStopped, ShownBoard, stop_shown}
+use Rattle.tm_hist.specs.Board.{AreOwedNext, IsOwedNext, IsStopped, ShownBoard, stop_shown}
 use Rattle.tm_hist.specs.History.{pair_of}
 use Rattle.tm_hist.specs.Machine.{shown_state}
 use Rattle.tm_hist.proofs.Boards.{drained_now, is_history, none_now}
+use Rattle.tm_hist.proofs.OwedAlone.{step_alone}
 use Rattle.tm_hist.proofs.PendingBoards.{idle_with_pending}
 use Rattle.tm_hist.proofs.Stops.{stays_stopped}
 use Rattle.tm_hist.proofs.UnderEvents.{owed_behind, tells_none}
@@ -58,3 +59,8 @@ returns-in-Ok-clause-owed c =
     subst (λ (b : ShownBoard). IsOwedNext None b c.args.core c.in-Ok.outcome) c.self.view_is
     (owed_behind None _ c.step.new.self c.args.core c.in-Ok.outcome (is_history _ _ c.self.invariant)
     c.in-Ok.ensures.ok)
+
+pub returns-in-Ok-clause-next : goal.returns-in-Ok-clause-next
+returns-in-Ok-clause-next c =
+    subst (λ (b : ShownBoard). AreOwedNext b ((c.args.core, c.in-Ok.outcome) ∷ [])) c.self.view_is
+    (step_alone _ c.step.new.self c.args.core c.in-Ok.outcome (is_history _ _ c.self.invariant) c.in-Ok.ensures.ok)

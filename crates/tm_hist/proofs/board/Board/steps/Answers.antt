@@ -19,7 +19,7 @@ loop-made-preserved-in-Ok c =
     λ h. let t = c.is_stopped.ensures.1 (subst (λ (b : ShownBoard). IsStopped b c.args.core) unmoved h) in cc in
     record {
       made = more_made _ _ _ _ _ 1 before
-          (one_made _ _ _ c.in-Ok._outcome s.same s.ok s.no_abort s.stops s.idle.0 going);
+          (one_made _ _ _ c.in-Ok._outcome s.same s.ok s.no_abort s.next s.stops s.idle.0 going);
       exists = subst (λ (n : ℕ). c.args.core < n)
           (sym (ap (λ p. length p.entries) s.same.program ∙ ap (λ (b : ShownBoard). length b.program.entries) unmoved
           ∙ ap (λ p. length p.entries) g.made.same.program)) i.exists;

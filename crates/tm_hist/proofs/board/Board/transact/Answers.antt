@@ -10,5 +10,5 @@ invariant_of-self c =
 pub returns-in-Some-clause-made : goal.returns-in-Some-clause-made
 returns-in-Some-clause-made c =
     let e = c.in-Some.ensures in
-    whole_made c.transact.new.self c.self.view_is c.args.core c.in-Some.inside e.steps
+    whole_made c.transact.new.self c.self.view_is c.args.core c.in-Some.inside c.self.invariant e.steps
     c.push_transaction.ensures.pairs e.running
