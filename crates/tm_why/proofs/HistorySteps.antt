@@ -13,8 +13,8 @@ use Rattle.tm_why.specs.History.{IsWatchOf}
 pub watched_more : (board before : Board) (watch next : Watch) (n core : ℕ) (made : Outcome) (asked : Asked)
     → slice_get board.history n ≡ Some (core, made) → IsFirst board n before → IsHistory before
     → IsAsked before.machine core asked → (told : IsWatchOf board n watch) → IsWatch next ((asked, made) ∷ told.steps) →
-    IsWatchOf board (n + 1) next
-watched_more board before watch next n core made asked at so_far law is_asked told kept = record {
+    next.stores.most ≡ watch.stores.most → IsWatchOf board (n + 1) next
+watched_more board before watch next n core made asked at so_far law is_asked told kept most = record {
   steps = (asked, made) ∷ told.steps;
   many = let count : length told.steps ≡ n = told.many in omega arith;
   told = (
@@ -28,4 +28,5 @@ watched_more board before watch next n core made asked at so_far law is_asked to
     told.told,
   );
   kept = kept;
+  most = most ∙ told.most;
 }

@@ -1,5 +1,7 @@
 mod OneStep
 mod FilledRows
 mod ChangedRows
+mod Queues
+mod Pending
 mod StandingHits
 pub mod HistorySteps

@@ -23,8 +23,9 @@ use Rattle.tm_model.specs.declared.explain.Hit.{Hit}
 use Rattle.tm_core.proofs.ExplainLaws.{condemn}
 use Rattle.tm_model.proofs.Events.{abort_hits_nobody, aborted_by_none, no_event_told}
 use Rattle.tm_why.specs.Standing.{AreHitsTold, AreStanding, HitsStand}
-use Rattle.tm_why.specs.Types.{Asked, StandingHit}
-use Rattle.tm_why.specs.Watched.{Told, drain_hit_on, hit_in, hit_made, hit_on, is_drain, left_by, standing}
+use Rattle.tm_why.specs.Types.{Asked, MadeStore, StandingHit}
+use Rattle.tm_why.specs.Watched.{Told, drain_hit_on, drained_store, eip_by, hit_in, hit_made, hit_on, is_drain}
+use Rattle.tm_why.specs.Watched.{left_by, queue_in, standing, step_of}
 
 -- ---- the core's own step
 
@@ -105,16 +106,17 @@ or_some (Some hit) more = refl
 abbrev IsTold : Option ℕ → Option ℕ → Option Hit → Type 0
 IsTold before after told = MatchOption told (after ≡ before) (λ (h : Hit). (before ≡ None) × IsSome after)
 
-told_other : (number : ℕ) (step : Told) (told : Option Hit) (before after : Option ℕ) (hit : Option StandingHit) →
-    IsTold before after told → is_some before ≡ is_some hit →
-    is_some after ≡ is_some (option_or hit (standing number step told))
-told_other number step None before after hit m e = ap is_some m ∙ e ∙ sym (or_none hit)
-told_other number step (Some h) before after hit m e =
+told_other : (number : ℕ) (step : Told) (by : Option MadeStore) (told : Option Hit) (before after : Option ℕ)
+    (hit : Option StandingHit) → IsTold before after told → is_some before ≡ is_some hit →
+    is_some after ≡ is_some (option_or hit (standing number step by told))
+told_other number step by None before after hit m e = ap is_some m ∙ e ∙ sym (or_none hit)
+told_other number step by (Some h) before after hit m e =
     m.1 ∙ sym (or_some hit (record {
       step = number;
       core = step.0.core;
-      eip = step.0.eip;
+      eip = eip_by step.0 by;
       is_drain = is_drain step.1;
+      stored = step_of by;
       hit = h;
     }))
 
@@ -185,7 +187,7 @@ drain_owed setting memory (oldest ∷ younger) core doom some = refl
 
 -- ---- each step
 
-module _ (event : Option Event) (setting : Setting) (state : State) (doomed : Doomed) (asked : Asked)
+module _ (most : ℕ) (event : Option Event) (setting : Setting) (state : State) (doomed : Doomed) (asked : Asked)
     (earlier : List Told) where
   abbrev outcome : Outcome
   outcome = owed_now event setting state doomed asked.core
@@ -201,12 +203,15 @@ module _ (event : Option Event) (setting : Setting) (state : State) (doomed : Do
       (state.cores other) (doomed other)
 
   abbrev hit_own : ℕ → Option StandingHit
-  hit_own core = left_by outcome (hit_in core earlier)
+  hit_own core = left_by outcome (hit_in most core earlier)
+
+  abbrev stored : Option MadeStore
+  stored = drained_store (asked, outcome) (queue_in most asked.core earlier)
 
   abbrev hit_other : ℕ → Option StandingHit
   hit_other core =
-      option_or (hit_in core earlier)
-      (standing (suc (length earlier)) (asked, outcome) (hit_made (asked, outcome) core))
+      option_or (hit_in most core earlier)
+      (standing (suc (length earlier)) (asked, outcome) stored (hit_made (asked, outcome) core))
 
   abbrev IsToldBy : ℕ → Outcome → Type 0
   IsToldBy core made =
@@ -255,19 +260,19 @@ module _ (event : Option Event) (setting : Setting) (state : State) (doomed : Do
 
   by_core : (core : ℕ) (same : Bool) → eqb core asked.core ≡ same →
       ((other : ℕ) → (other ≡ asked.core → ⊥) → AreHitsTold setting state doomed asked other) →
-      AreStanding doomed earlier →
+      AreStanding most doomed earlier →
       is_some (if same then doom_own else doom_other core) ≡ is_some (if same then hit_own core else hit_other core)
   by_core core true e told stands =
       own event setting state.memory (state.pending asked.core) (state.cores asked.core) (doomed asked.core)
-      (hit_in core earlier)
+      (hit_in most core earlier)
       (sym (ap (λ c. is_some (doomed c)) (eqb-true core asked.core e)) ∙ stands core)
   by_core core false e told stands =
       let differs : core ≡ asked.core → ⊥ = λ same. true≢false (sym (eq-eqb core asked.core same) ∙ e) in
       let P : Bool → Type 0 =
       λ b. IsTold (doomed core) (if b then doom_own else doom_other core) (hit_made (asked, outcome) core) in
-      told_other (suc (length earlier)) (asked, outcome) (hit_made (asked, outcome) core) (doomed core)
-      (doom_other core) (hit_in core earlier) (subst P e (is_told core e (told core differs))) (stands core)
+      told_other (suc (length earlier)) (asked, outcome) stored (hit_made (asked, outcome) core) (doomed core)
+      (doom_other core) (hit_in most core earlier) (subst P e (is_told core e (told core differs))) (stands core)
 
 pub hits_stand : HitsStand
-hits_stand event setting state doomed asked earlier told stands core =
-    by_core event setting state doomed asked earlier core (eqb core asked.core) refl told stands
+hits_stand most event setting state doomed asked earlier told stands core =
+    by_core most event setting state doomed asked earlier core (eqb core asked.core) refl told stands

@@ -3,7 +3,7 @@ use Rattle.std.specs.Prelude.{◌≡◌, ℕ, ◌<◌, ◌≤◌, Option, None, 
 use Rattle.tm_model.specs.Explained.{abort_reason}
 use Rattle.tm_model.specs.State.{State, seen_by}
 use Rattle.tm_core.specs.Theorem.{ShownMachine, StandsFor, machine_setting, view_at}
-use Rattle.tm_why.specs.Said.{IsReachSaid, IsSaidOf, IsSaidOfDrain}
+use Rattle.tm_why.specs.Said.{IsPendsSaid, IsReachSaid, IsSaidOf, IsSaidOfDrain}
 use Rattle.tm_why.specs.Types.{Asked}
 use Rattle.tm_why.specs.Watched.{drain_hit_on, hit_on}
 
@@ -18,6 +18,7 @@ pub record IsAsked (machine : ShownMachine) (number : ℕ) (asked : Asked) : Typ
       IsSaidOfDrain machine number other (drain_hit_on asked other)
   pub drain_own : drain_hit_on asked number ≡ None
   pub drain_absent : (other : ℕ) → length machine.views ≤ other → drain_hit_on asked other ≡ None
+  pub pends : IsPendsSaid machine number asked.pends
   pub reason : (state : State) (doomed : ℕ → Option ℕ) → StandsFor machine state doomed →
       asked.reason ≡ abort_reason (machine_setting machine) (seen_by state number) (state.cores number) (doomed number)
   pub reach : IsReachSaid machine number asked.reach

@@ -28,6 +28,7 @@ pub record IsWatchOf (board : Board) (count : ℕ) (watch : Watch) : Type 0 wher
   pub many : length steps ≡ count
   pub told : AreTold board steps
   pub kept : IsWatch watch steps
+  pub most : watch.stores.most ≡ board.limits.stores
 
 -- why the core's next step is an abort, where it is one: what the machine says of it, and what is known of its
 -- transaction behind all steps of the history
@@ -37,4 +38,4 @@ pub record IsReasonOf (board : Board) (core : ℕ) (reason : Option Reason) : Ty
   pub told : AreTold board steps
   pub asked : Asked
   pub next : IsAsked board.machine core asked
-  pub is : reason ≡ reason_in asked steps
+  pub is : reason ≡ reason_in board.limits.stores asked steps

@@ -1,6 +1,7 @@
 -- The line that tells why a core's next step is an abort (docs/FORMATS.md, "Debugger"; docs/GDB.md).
-use Rattle.std.specs.Prelude.{ℕ, if◌then◌else◌, List, [], ◌++◌, codes, Option, Some, None}
+use Rattle.std.specs.Prelude.{ℕ, Bool, ◌||◌, not, if◌then◌else◌, List, [], ◌++◌, codes, Option, Some, None}
 use Rattle.std.specs.Fmt.{decimal}
+use Rattle.std.specs.Option.{is_some}
 use Rattle.text_out.specs.Number.{eight_digits, hex_digits}
 use Rattle.text_out.specs.TextLine.{line_end}
 use Rattle.tm_hist.specs.Lines.{stop_word}
@@ -29,16 +30,26 @@ use_word Write = codes ": written at step "
 abbrev pub hit_word : StandingHit → List ℕ
 hit_word hit = if hit.is_drain then codes ": drained at step " else use_word hit.hit.kind
 
--- the address of the instruction that hit; which one made a store that drains later is not known
-abbrev pub place_words : StandingHit → List ℕ
-place_words hit = if hit.is_drain then [] else codes " at " ++ eight_digits hit.eip
+-- whether it is known by which instruction the step hit: of a drain, where it is known which step stored
+abbrev pub is_placed : StandingHit → Bool
+is_placed hit = not hit.is_drain || is_some hit.stored
 
--- the line that was hit, and the step that did it: its number, its core, and the address of its instruction
+-- its address
+abbrev pub place_words : StandingHit → List ℕ
+place_words hit = if is_placed hit then codes " at " ++ eight_digits hit.eip else []
+
+-- of a drain, the step that made the store
+abbrev pub stored_words : Option ℕ → List ℕ
+stored_words None = []
+stored_words (Some step) = codes ", stored at step " ++ decimal step
+
+-- the line that was hit, and the step that did it: its number, its core, and the address of its instruction, which of
+-- a drain is that of the step that stored
 abbrev pub hit_words : Option StandingHit → List ℕ
 hit_words None = []
 hit_words (Some hit) =
     codes " line " ++ hex_digits hit.hit.line ++ hit_word hit ++ decimal hit.step ++ codes " by core "
-    ++ decimal hit.core ++ place_words hit
+    ++ decimal hit.core ++ place_words hit ++ stored_words hit.stored
 
 -- the step that began the transaction
 abbrev pub begun_words : Option ℕ → List ℕ

@@ -2,6 +2,7 @@
 use Rattle.std.specs.Prelude.{ℕ, ◌==◌, if◌then◌else◌, Option}
 use Rattle.std.specs.Option.{option_or}
 use Rattle.tm_model.specs.declared.outcome.Outcome.{Outcome}
+use Rattle.tm_stores.specs.declared.change.MadeStore.{MadeStore}
 use Rattle.tm_why.specs.Types.{Asked, Hit, Watched}
 use Rattle.tm_why.specs.Watched.{Told, begun_by, hit_made, left_by, standing}
 
@@ -11,19 +12,22 @@ row_after_own row outcome number = record {
   hit = left_by outcome row.hit;
 }
 
-abbrev pub row_after_other : Watched → Told → Option Hit → ℕ → Watched
-row_after_other row step hit number = record {
+-- by a step of this number, and of a drain by this store
+abbrev pub row_after_other : Watched → Told → Option Hit → ℕ → Option MadeStore → Watched
+row_after_other row step hit number by = record {
   begun = row.begun;
-  hit = option_or row.hit (standing number step hit);
+  hit = option_or row.hit (standing number step by hit);
 }
 
-abbrev pub row_after : ℕ → Asked → Outcome → ℕ → Watched → Watched
-row_after core asked outcome number row =
+abbrev pub row_after : ℕ → Asked → Outcome → ℕ → Option MadeStore → Watched → Watched
+row_after core asked outcome number by row =
     if core == asked.core
     then row_after_own row outcome number
-    else row_after_other row (asked, outcome) (hit_made (asked, outcome) core) number
+    else row_after_other row (asked, outcome) (hit_made (asked, outcome) core) number by
 
 -- but for the core's own row
-abbrev pub row_if_other : ℕ → Asked → Outcome → ℕ → Watched → Watched
-row_if_other core asked outcome number row =
-    if core == asked.core then row else row_after_other row (asked, outcome) (hit_made (asked, outcome) core) number
+abbrev pub row_if_other : ℕ → Asked → Outcome → ℕ → Option MadeStore → Watched → Watched
+row_if_other core asked outcome number by row =
+    if core == asked.core
+    then row
+    else row_after_other row (asked, outcome) (hit_made (asked, outcome) core) number by

@@ -11,8 +11,9 @@ use Rattle.tm_model.specs.declared.outcome.Outcome.{Outcome}
 use Rattle.tm_why.specs.Types.{Asked}
 use Rattle.tm_why.specs.Watched.{Told, drain_hit_on, hit_in, hit_on}
 
-abbrev pub AreStanding : Doomed → List Told → Type 0
-AreStanding doomed steps = (core : ℕ) → is_some (doomed core) ≡ is_some (hit_in core steps)
+-- of a machine with room for so many pending stores
+abbrev pub AreStanding : ℕ → Doomed → List Told → Type 0
+AreStanding most doomed steps = (core : ℕ) → is_some (doomed core) ≡ is_some (hit_in most core steps)
 
 -- before a step of the core that was asked of, its hits on another core were told: those of the step that it makes by
 -- itself, and where a store of it is pending those of a drain
@@ -25,8 +26,9 @@ pub record AreHitsTold (setting : Setting) (state : State) (doomed : Doomed) (as
 -- told: so from a run's begin on, where no core is doomed and no step was told
 abbrev pub HitsStand : Type 0
 HitsStand =
-    (event : Option Event) (setting : Setting) (state : State) (doomed : Doomed) (asked : Asked) (earlier : List Told) →
+    (most : ℕ) (event : Option Event) (setting : Setting) (state : State) (doomed : Doomed) (asked : Asked)
+    (earlier : List Told) →
     ((other : ℕ) → (other ≡ asked.core → ⊥) → AreHitsTold setting state doomed asked other) →
-    AreStanding doomed earlier →
+    AreStanding most doomed earlier →
     let outcome : Outcome = owed_now event setting state doomed asked.core in
-    AreStanding (doomed_after setting state doomed asked.core outcome) ((asked, outcome) ∷ earlier)
+    AreStanding most (doomed_after setting state doomed asked.core outcome) ((asked, outcome) ∷ earlier)

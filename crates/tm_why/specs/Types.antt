@@ -5,3 +5,4 @@ pub use Rattle.tm_why.specs.declared.row.StandingHit.{StandingHit}
 pub use Rattle.tm_why.specs.declared.row.Watched.{Watched}
 pub use Rattle.tm_why.specs.declared.watch.Watch.{Watch}
 pub use Rattle.tm_model.specs.declared.explain.Hit.{Hit}
+pub use Rattle.tm_stores.specs.declared.change.MadeStore.{MadeStore}

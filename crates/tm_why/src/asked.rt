@@ -4,14 +4,15 @@
 //! The step is planned once, and the cores are gone through only where it may hit one, and again for a drain where a
 //! store of its core is pending. [`Asked::of`] makes a row of hits of each and [`Asked::anew`] fills those that are
 //! there, for who asks before every step. That an event comes in place of the step is not known yet: `row` takes those
-//! of the step, those of the drain, or none, by the outcome.
+//! of the step, those of the drain, or none, by the outcome. Where no store may be pending, no drain is asked of.
 
 ghost use Rattle.std.specs.Prelude.{◌≡◌, ℕ, ◌↔◌, ◌<◌, ◌≤◌, IfOk, IsOk, None, OnErr, OnOk, length, slice_index_or};
 ghost use Rattle.tm_core.specs.Previewed.{IsPreview};
 ghost use Rattle.tm_core.specs.Theorem.{view_at};
 ghost use Rattle.tm_why.specs.Hits.{AreDrainHits, AreHits, HasNoHits};
+ghost use Rattle.tm_why.specs.Said.{IsPendsSaid, is_pending};
 
-use tm_core::{Machine, NoSuchCore, Preview};
+use tm_core::{Buffering, Machine, NoSuchCore, Preview};
 use tm_model::{AbortReason, Hit, Reach};
 
 /// The most cores of a machine.
@@ -39,6 +40,8 @@ pub struct Asked {
     pub drain_hits: [Option<Hit>; MOST_CORES],
     /// Each core that the drain hits has a number below this, at most 64.
     pub drain_below: u8,
+    /// Whether the step's own store is pending behind it, and not in memory yet.
+    pub pends: bool,
     /// Why the step is an abort, where it is one.
     pub reason: Option<AbortReason>,
     /// Which bytes the step loads and stores.
@@ -63,6 +66,7 @@ impl Asked {
             below: 0,
             drain_hits: [None; MOST_CORES],
             drain_below: 0,
+            pends: false,
             reason: None,
             reach: NOTHING,
         }
@@ -80,14 +84,15 @@ impl Asked {
         let mut hits = [None; MOST_CORES];
         let below = hits_of(machine, &preview, &mut hits);
         let mut drain_hits = [None; MOST_CORES];
-        let drain_below = drain_hits_of(machine, core, &mut drain_hits);
+        let stores = stores_of(machine, core, &mut drain_hits, 0);
         Ok(Asked {
             core,
             eip: preview.eip,
             hits,
             below,
             drain_hits,
-            drain_below,
+            drain_below: stores.drain_below,
+            pends: stores.pends,
             reason: preview.reason,
             reach: preview.reach,
         })
@@ -112,8 +117,9 @@ impl Asked {
         // Before `below` changes, which says how far the row is filled.
         clear(&mut self.hits, self.below);
         self.below = hits_of(machine, &preview, &mut self.hits);
-        clear(&mut self.drain_hits, self.drain_below);
-        self.drain_below = drain_hits_of(machine, core, &mut self.drain_hits);
+        let stores = stores_of(machine, core, &mut self.drain_hits, self.drain_below);
+        self.drain_below = stores.drain_below;
+        self.pends = stores.pends;
         self.core = core;
         self.eip = preview.eip;
         self.reason = preview.reason;
@@ -130,6 +136,18 @@ fn clear(hits: &mut [Option<Hit>; MOST_CORES], below: u8)
 {
     for core in 0..below as usize {
         hits[core] = None;
+    }
+}
+
+// As [`clear`], of which a row that has none asks nothing but a test.
+#[inline(always)]
+fn clear_if_any(hits: &mut [Option<Hit>; MOST_CORES], below: u8)
+    requires most { below ≤ 64 }
+    requires none { (k : ℕ) → below ≤ k → slice_index_or hits.old k None ≡ None }
+    ensures { HasNoHits hits.new }
+{
+    if below != 0 {
+        clear(hits, below);
     }
 }
 
@@ -163,8 +181,83 @@ fn put_hits(machine: &Machine, preview: &Preview, hits: &mut [Option<Hit>; MOST_
     below
 }
 
-// The same of a drain of this core: where no store of it is pending, there is none to ask of.
-fn drain_hits_of(machine: &Machine, core: u8, hits: &mut [Option<Hit>; MOST_CORES]) -> u8
+// What is said of the stores of a core: below which number each core is that a drain hits, and whether the store of the
+// core's next step, under no event, is pending behind it.
+#[derive(Clone, Copy)]
+struct SaidOfStores {
+    drain_below: u8,
+    pends: bool,
+}
+
+// Puts a drain's hits in the place of those that a row has below this number. Where no store may be pending, one test
+// of the machine and one of the row are all that is done.
+#[inline(always)]
+fn stores_of(
+    machine: &Machine,
+    core: u8,
+    hits: &mut [Option<Hit>; MOST_CORES],
+    below: u8,
+) -> SaidOfStores
+    requires exists { core < length machine.now.views }
+    requires most { below ≤ 64 }
+    requires none { (k : ℕ) → below ≤ k → slice_index_or hits.old k None ≡ None }
+    ensures hits { AreDrainHits machine.now core hits.new result.drain_below }
+    ensures pends { IsPendsSaid machine.now core result.pends }
+{
+    if machine.stores() == 0 {
+        no_stores_of(machine, core, hits, below)
+    } else {
+        pending_stores_of(machine, core, hits, below)
+    }
+}
+
+// As [`stores_of`], where none may be pending.
+#[inline(always)]
+fn no_stores_of(
+    machine: &Machine,
+    core: u8,
+    hits: &mut [Option<Hit>; MOST_CORES],
+    below: u8,
+) -> SaidOfStores
+    requires direct { machine.now.store_buffer ≡ 0 }
+    requires exists { core < length machine.now.views }
+    requires most { below ≤ 64 }
+    requires none { (k : ℕ) → below ≤ k → slice_index_or hits.old k None ≡ None }
+    ensures hits { AreDrainHits machine.now core hits.new result.drain_below }
+    ensures pends { IsPendsSaid machine.now core result.pends }
+{
+    // This call does nothing: its contract says that none is pending.
+    machine.nothing_pending();
+    clear_if_any(hits, below);
+    SaidOfStores {
+        drain_below: 0,
+        pends: false,
+    }
+}
+
+// As [`stores_of`], where some may be.
+#[inline(never)]
+fn pending_stores_of(
+    machine: &Machine,
+    core: u8,
+    hits: &mut [Option<Hit>; MOST_CORES],
+    below: u8,
+) -> SaidOfStores
+    requires exists { core < length machine.now.views }
+    requires most { below ≤ 64 }
+    requires none { (k : ℕ) → below ≤ k → slice_index_or hits.old k None ≡ None }
+    ensures hits { AreDrainHits machine.now core hits.new result.drain_below }
+    ensures pends { IsPendsSaid machine.now core result.pends }
+{
+    clear(hits, below);
+    SaidOfStores {
+        drain_below: pending_hits_of(machine, core, hits),
+        pends: pends_of(machine, core),
+    }
+}
+
+// Where no store of the core is pending, there is none to ask of.
+fn pending_hits_of(machine: &Machine, core: u8, hits: &mut [Option<Hit>; MOST_CORES]) -> u8
     requires exists { core < length machine.now.views }
     requires empty { HasNoHits hits.old }
     ensures { AreDrainHits machine.now core hits.new result }
@@ -176,7 +269,7 @@ fn drain_hits_of(machine: &Machine, core: u8, hits: &mut [Option<Hit>; MOST_CORE
     }
 }
 
-// As [`drain_hits_of`], where a store is pending: each core is asked for.
+// As [`pending_hits_of`], where a store is pending: each core is asked for.
 fn put_drain_hits(machine: &Machine, core: u8, hits: &mut [Option<Hit>; MOST_CORES]) -> u8
     requires exists { core < length machine.now.views }
     requires empty { HasNoHits hits.old }
@@ -191,4 +284,25 @@ fn put_drain_hits(machine: &Machine, core: u8, hits: &mut [Option<Hit>; MOST_COR
         }
     }
     end
+}
+
+// Whether the core's step, which is next under no event, leaves its store pending.
+fn pends_of(machine: &Machine, core: u8) -> bool
+    requires exists { core < length machine.now.views }
+    ensures { IsPendsSaid machine.now core result }
+{
+    match machine.ahead(core) {
+        Ok(ahead) => is_pending(ahead),
+        Err(_) => unreachable!(),
+    }
+}
+
+// Whether a step that does this with the stores of its core leaves its own one pending.
+fn is_pending(ahead: Buffering) -> bool
+    ensures { result ≡ is_pending ahead }
+{
+    match ahead {
+        Buffering::Pends => true,
+        Buffering::Waits(_) | Buffering::Goes => false,
+    }
 }

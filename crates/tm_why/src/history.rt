@@ -5,10 +5,11 @@
 //! is given tells only outcomes; it is not stepped. Who makes the steps anyway tells a [`Watch`] of them, and needs
 //! nothing of this.
 
-ghost use Rattle.std.specs.Prelude.{◌+◌, ◌<◌, IfOk, length};
+ghost use Rattle.std.specs.Prelude.{◌≡◌, ◌+◌, ◌<◌, [], IfOk, length};
 ghost use Rattle.tm_hist.specs.Back.{IsFirst};
 ghost use Rattle.tm_hist.specs.Board.{IsNew};
 ghost use Rattle.tm_why.specs.History.{IsReasonOf, IsWatchOf};
+ghost use Rattle.tm_why.specs.Watched.{IsWatch};
 
 use crate::asked::Asked;
 use crate::reason::Reason;
@@ -22,8 +23,9 @@ pub fn watched(alloc: Global, board: &Board) -> Result<Watch, AllocError>
     ensures { IfOk result (λ watch. IsWatchOf board.now (length board.now.history) watch) }
 {
     // A board that was made has limits within their ranges: what is refused is memory.
+    let watch = Watch::new(alloc, board.limits())?;
     match Board::new(alloc, board.program(), board.limits(), board.limit()) {
-        Ok(opened) => Ok(follow(board, opened)),
+        Ok(opened) => Ok(follow(board, opened, watch)),
         Err(_) => Err(AllocError),
     }
 }
@@ -41,13 +43,15 @@ pub fn reason_of(board: &Board, watch: &Watch, core: u8) -> Option<Reason>
     }
 }
 
-// Makes the steps of a board's history on a new board, and tells a watch of each.
-fn follow(board: &Board, opened: Board) -> Watch
-    requires { IsNew board.now.program board.now.limits board.now.limit opened }
+// Makes the steps of a board's history on a new board, and tells a watch of each that was told of none.
+fn follow(board: &Board, opened: Board, watch: Watch) -> Watch
+    requires opened { IsNew board.now.program board.now.limits board.now.limit opened }
+    requires none { IsWatch watch [] }
+    requires most { watch.stores.most ≡ board.now.limits.stores }
     ensures { IsWatchOf board.now (length board.now.history) result }
 {
     let mut first = opened;
-    let mut watch = Watch::new();
+    let mut watch = watch;
     // Filled anew before each step: its rows are long.
     let mut asked = Asked::nothing();
     'steps: for made in 0..board.made() {

@@ -7,7 +7,8 @@
 ghost use Rattle.std.specs.Prelude.{◌≡◌, ◌+◌, ◌≤◌, ◌++◌, length};
 ghost use Rattle.arrayvec.specs.ArrayVec.{array_vec_len};
 ghost use Rattle.text_out.specs.Writing.{Writes};
-ghost use Rattle.tm_why.specs.Lines.{begun_words, cause_word, hit_word, hit_words, place_words, reason_line, use_word};
+ghost use Rattle.tm_why.specs.Lines.{begun_words, cause_word, hit_word, hit_words, place_words, reason_line};
+ghost use Rattle.tm_why.specs.Lines.{stored_words, use_word};
 
 use crate::reason::Reason;
 use crate::row::StandingHit;
@@ -79,23 +80,35 @@ pub fn hit_word(hit: &StandingHit) -> &'static [u8]
     }
 }
 
-// Where the instruction stands that hit, where that is known.
+// Where the instruction stands by which the step hit, where that is known.
 fn push_place(row: &mut Page, hit: &StandingHit)
     requires { array_vec_len row.old + 20 ≤ 4096 }
     ensures text { row.new.items ≡ row.old.items ++ place_words hit.now }
     ensures len { array_vec_len row.new ≤ array_vec_len row.old + 20 }
 {
-    if !hit.is_drain {
+    if hit.is_placed() {
         push(row, b" at ");
         push_eight(row, hit.eip);
     }
 }
 
+/// Adds at which step a store was made that hit when it reached memory, where that is told.
+pub fn push_stored(row: &mut Page, stored: Option<u64>)
+    requires { array_vec_len row.old + 60 ≤ 4096 }
+    ensures text { row.new.items ≡ row.old.items ++ stored_words stored }
+    ensures len { array_vec_len row.new ≤ array_vec_len row.old + 60 }
+{
+    if let Some(stored) = stored {
+        push(row, b", stored at step ");
+        push_decimal(row, stored);
+    }
+}
+
 // The line that was hit, and by which step.
 fn push_hit(row: &mut Page, hit: Option<StandingHit>)
-    requires { array_vec_len row.old + 200 ≤ 4096 }
+    requires { array_vec_len row.old + 300 ≤ 4096 }
     ensures text { row.new.items ≡ row.old.items ++ hit_words hit }
-    ensures len { array_vec_len row.new ≤ array_vec_len row.old + 200 }
+    ensures len { array_vec_len row.new ≤ array_vec_len row.old + 300 }
 {
     if let Some(hit) = hit {
         push(row, b" line ");
@@ -105,6 +118,7 @@ fn push_hit(row: &mut Page, hit: Option<StandingHit>)
         push(row, b" by core ");
         push_decimal(row, u64::from(hit.core));
         push_place(row, &hit);
+        push_stored(row, hit.stored);
     }
 }
 

@@ -1,3 +1,5 @@
+use Rattle.std.proofs.Common.{ap, ◌∙◌}
+use Rattle.tm_why.specs.Watched.{reason_in}
 use Rattle.tm_why.proofs.history.reason_of.Goals as goal
 
 pub returns : goal.returns
@@ -7,5 +9,6 @@ returns c = record {
   told = c.requires.told.told;
   asked = c.in-Ok.asked;
   next = rw c.machine.ensures at c.in-Ok.ensures.asked;
-  is = c.reason.ensures c.requires.told.steps c.requires.told.kept;
+  is = c.reason.ensures c.requires.told.steps c.requires.told.kept
+      ∙ ap (λ most. reason_in most c.in-Ok.asked c.requires.told.steps) c.requires.told.most;
 }

@@ -9,4 +9,4 @@ returns-clause-told c =
     watched_more c.args.board.now c.args.first.now c.args.watch.now c.note.new.self c.args.made c.in-Some.core
     c.in-Some.outcome c.anew.new.self (sym c.step_at.ensures.step ∙ c.in-Some.is) c.requires.so_far c.is_run.ensures
     (rw c.machine.ensures at c.in-Ok.ensures.asked) c.requires.told
-    (c.note.ensures c.requires.told.steps few c.requires.told.kept)
+    (c.note.ensures.watch c.requires.told.steps few c.requires.told.kept) c.note.ensures.most

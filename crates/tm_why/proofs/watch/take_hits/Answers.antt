@@ -17,7 +17,7 @@ loop-core-preserved c =
             len = ap length w.rows-is ∙ length-set c.loop-core.rows c.loop-core.core w.row_after.result ∙ i.len;
             passed = λ k below.
                 ap (λ rows. get_or rows k outside) w.rows-is
-                ∙ changed_next c.args.asked.now c.args.outcome c.args.number c.args.rows.now c.loop-core.rows
+                ∙ changed_next c.args.asked.now c.args.outcome c.args.number c.args.by c.args.rows.now c.loop-core.rows
                 c.loop-core.core w.row_after.result within w.if-core-own.true w.row_after.ensures i.passed i.rest k
                 below;
             rest = λ k above.
@@ -32,15 +32,15 @@ loop-core-preserved c =
             len = ap length same ∙ i.len;
             passed = λ k below.
                 ap (λ rows. get_or rows k outside) same
-                ∙ kept_next c.args.asked.now c.args.outcome c.args.number c.args.rows.now c.loop-core.rows
+                ∙ kept_next c.args.asked.now c.args.outcome c.args.number c.args.by c.args.rows.now c.loop-core.rows
                 c.loop-core.core (elim w.else-core-own.branch [
                   | else-core-own-via-then-core-own+else-is_some v ↦
-                      other_none c.args.asked.now c.args.outcome c.args.number c.loop-core.core
+                      other_none c.args.asked.now c.args.outcome c.args.number c.args.by c.loop-core.core
                       (get_or c.args.rows.now c.loop-core.core outside)
                       (sym v.hit_made.ensures
                       ∙ not_some _ (sym v.is_some.ensures ∙ v.if-is_some.false))
                   | else-core-own-via-else-core-own v ↦
-                      other_own c.args.asked.now c.args.outcome c.args.number c.loop-core.core
+                      other_own c.args.asked.now c.args.outcome c.args.number c.args.by c.loop-core.core
                       (get_or c.args.rows.now c.loop-core.core outside) v.if-core-own.false
                 ]) i.passed i.rest k below;
             rest = λ k above. ap (λ rows. get_or rows k outside) same ∙ i.rest k (after k above);

@@ -7,6 +7,6 @@ abbrev pub invariant-loop-core : goal.invariant-loop-core
 invariant-loop-core l = record {
   len : length l.rows ≡ 64;
   passed : (k : ℕ) → k < l.core → get_or l.rows k outside
-      ≡ row_if_other k l.asked l.outcome l.number (get_or l.initial.rows k outside);
+      ≡ row_if_other k l.asked l.outcome l.number l.by (get_or l.initial.rows k outside);
   rest : (k : ℕ) → l.core ≤ k → get_or l.rows k outside ≡ get_or l.initial.rows k outside;
 }
