@@ -5,14 +5,14 @@ use Rattle.std.specs.Prelude.{All, nat_eq, option_and_then}
 use Rattle.std.proofs.lemmas.Bool.{eq-eqb, eqb-true, false≢true}
 use Rattle.std.proofs.lemmas.List.Elements.{All-cons, All-head, All-nil, All-tail}
 use Rattle.tm_model.specs.Setting.{Setting}
-use Rattle.tm_model.specs.State.{Core, seen_by}
+use Rattle.tm_model.specs.State.{Core, Pending}
 use Rattle.tm_model.specs.declared.outcome.Event.{Event}
 use Rattle.tm_model.specs.declared.outcome.Pick.{Pick}
 use Rattle.tm_rule.specs.declared.kinds.Stop.{Stop}
 use Rattle.tm_outcomes.specs.Schedules.{HasEnded, Situation, after_pick, after_schedule}
-use Rattle.tm_outcomes.specs.Unseen.{IsUnseen, LeadUnseen, is_unseen}
+use Rattle.tm_outcomes.specs.Unseen.{IsUnseen, LeadUnseen, drains, is_unseen}
 use Rattle.tm_outcomes.specs.Verdicts.{HasStoppedBy, StopsBy}
-use Rattle.tm_outcomes.proofs.Crossing.{picked, same_under_any, unseen_at, unseen_first, unseen_goes}
+use Rattle.tm_outcomes.proofs.Crossing.{Crosses, drain_first, picked, same_under_any, unseen_first, unseen_leads}
 use Rattle.tm_outcomes.proofs.NonePending.{core_within}
 use Rattle.tm_outcomes.proofs.Somes.{same_in}
 
@@ -50,17 +50,15 @@ module _ (setting : Setting) (allowed : Option Event → Type 0) where
       → end.state.memory ≡ now.state.memory
   lead_memory [] now end lead = ap (λ (x : Situation). x.state.memory) (sym lead)
   lead_memory (pick ∷ picks) now end lead =
-      let step = picked setting now lead.2.0 pick lead.2.1.0 in
-      let is = unseen_at setting now pick.core lead.0 in
       lead_memory picks lead.2.0 end lead.2.1.1
-      ∙ ap (λ (x : Situation). x.state.memory)
-      (same_in (sym lead.2.1.0 ∙ unseen_goes setting now pick is lead.0.0 step.below))
+      ∙ ap (λ (x : Situation). x.state.memory) (sym (unseen_leads setting now lead.2.0 pick lead.0 lead.2.1.0))
 
   -- ---- where cores have stopped
 
-  halted_sees : (memory : List ℕ) (core : Core) (doom : Option ℕ) (why : Stop) → HasStoppedBy core why
-      → is_unseen setting memory core doom ≡ false
-  halted_sees memory core doom why (regs, is) = ap (λ (x : Core). is_unseen setting memory x doom) is
+  halted_sees : (memory : List ℕ) (pending : Pending) (core : Core) (doom : Option ℕ) (why : Stop)
+      → HasStoppedBy core why → is_unseen setting memory pending core doom ≡ false
+  halted_sees memory pending core doom why (regs, is) =
+      ap (λ (x : Core). is_unseen setting memory pending x doom) is
 
   -- from where each has stopped there is none
   pub ended_rests : (picks : List Pick) (now end : Situation) → HasEnded now.state
@@ -68,10 +66,10 @@ module _ (setting : Setting) (allowed : Option Event → Type 0) where
   ended_rests [] now end ended lead = lead
   ended_rests (pick ∷ picks) now end ended lead =
       let halted = ended pick.core (core_within setting now lead.2.0 pick lead.2.1.0) in
-      absurd (false≢true (sym (halted_sees (seen_by now.state pick.core) (now.state.cores pick.core)
+      absurd (false≢true (sym (halted_sees now.state.memory (now.state.pending pick.core) (now.state.cores pick.core)
       (now.doomed pick.core) halted.1.0 (halted.0, halted.1.1)) ∙ lead.0.1))
 
-  stays : (now next : Situation) (pick : Pick) (why : Stop) → IsUnseen setting now pick.core
+  stays : (now next : Situation) (pick : Pick) (why : Stop) → IsUnseen setting now pick
       → after_pick setting now pick ≡ Some next →
       StopsBy now.state why → StopsBy next.state why
   stays now next pick why unseen goes stopped =
@@ -80,7 +78,7 @@ module _ (setting : Setting) (allowed : Option Event → Type 0) where
       let other : nat_eq core pick.core ≡ false =
       not_same core pick.core
       (λ same.
-      absurd (false≢true (sym (halted_sees (seen_by now.state pick.core) (now.state.cores pick.core)
+      absurd (false≢true (sym (halted_sees now.state.memory (now.state.pending pick.core) (now.state.cores pick.core)
       (now.doomed pick.core) why (subst (λ n. HasStoppedBy (now.state.cores n) why) same stopped.2)) ∙ unseen.1))) in (
         core,
         subst (λ (x : Situation). core < x.state.count) (sym step.is_next) stopped.1,
@@ -126,6 +124,49 @@ module _ (setting : Setting) (allowed : Option Event → Type 0) where
       turned true is = absurd (false≢true (sym e ∙ eq-eqb a b (sym (eqb-true b a is))))
       turned false is = is
 
+  -- where the first of them and a pick cross, and the pick is so beside the others
+  first_too : (picks : List Pick) (now middle end next : Situation) (first pick : Pick)
+      → (cross : Crosses setting first pick middle next) → allowed first.event →
+      IsAmong cross.end end ⊎ IsBeside cross.end end pick → IsAmong next end ⊎ IsBeside next end pick
+  first_too picks now middle end next first pick cross is_allowed (inl among) = inl (record {
+    picks = first ∷ among.picks;
+    leads = (cross.still, is_allowed, (cross.end, (cross.one_last, among.leads)));
+  })
+  first_too picks now middle end next first pick cross is_allowed (inr beside) = inr (record {
+    after = beside.after;
+    is_after = beside.is_after;
+    picks = first ∷ beside.picks;
+    leads = (cross.still, is_allowed, (cross.end, (cross.one_last, beside.leads)));
+  })
+
+  -- so it is with a pick of another core, or a drain; any other pick of the core is the first of them
+  first_beside : (picks : List Pick) (now middle end next : Situation) (first pick : Pick)
+      → IsUnseen setting now first → allowed first.event → after_pick setting now first ≡ Some middle
+      → LeadUnseen setting allowed middle picks end → after_pick setting now pick ≡ Some next →
+      ((behind : Situation) → after_pick setting middle pick ≡ Some behind
+      → IsAmong behind end ⊎ IsBeside behind end pick) →
+      IsAmong next end ⊎ IsBeside next end pick
+  first_beside picks now middle end next first pick unseen is_allowed is_first lead goes others =
+      elim (differs pick.core first.core (nat_eq pick.core first.core) refl) [
+        | inl same ↦ its_own (drains pick.event (now.state.pending first.core)) refl (sym same)
+        | inr apart ↦ across (unseen_first setting now middle next first pick unseen apart.0 apart.1 is_first goes)
+      ]
+    where
+      across : Crosses setting first pick middle next → IsAmong next end ⊎ IsBeside next end pick
+      across cross =
+          first_too picks now middle end next first pick cross is_allowed (others cross.end cross.other_last)
+
+      its_own : (drain : Bool) → drains pick.event (now.state.pending first.core) ≡ drain → first.core ≡ pick.core →
+          IsAmong next end ⊎ IsBeside next end pick
+      its_own true is same = across (drain_first setting now middle next first pick unseen same is is_first goes)
+      its_own false is same =
+          let there : middle ≡ next =
+          same_in (sym (same_under_any setting now middle first pick unseen same is is_first) ∙ goes) in
+          inl (record {
+            picks = picks;
+            leads = subst (λ (x : Situation). LeadUnseen setting allowed x picks end) there lead;
+          })
+
   pub one_beside : (picks : List Pick) (now end next : Situation) (pick : Pick)
       → LeadUnseen setting allowed now picks end →
       after_pick setting now pick ≡ Some next → IsAmong next end ⊎ IsBeside next end pick
@@ -136,31 +177,8 @@ module _ (setting : Setting) (allowed : Option Event → Type 0) where
     leads = refl;
   })
   one_beside (first ∷ picks) now end next pick lead goes =
-      elim (differs pick.core first.core (nat_eq pick.core first.core) refl) [
-        | inl same ↦
-            let is : lead.2.0 ≡ next =
-            same_in
-            (sym (same_under_any setting now lead.2.0 first pick lead.0 (sym same) lead.2.1.0) ∙ goes) in
-            inl (record {
-              picks = picks;
-              leads = subst (λ (x : Situation). LeadUnseen setting allowed x picks end) is lead.2.1.1;
-            })
-        | inr apart ↦
-            let cross =
-            unseen_first setting now lead.2.0 next first pick lead.0 apart.0 apart.1 lead.2.1.0 goes in
-            elim (one_beside picks lead.2.0 end cross.end pick lead.2.1.1 cross.other_last) [
-              | inl among ↦ inl (record {
-                picks = first ∷ among.picks;
-                leads = (cross.still, lead.1, (cross.end, (cross.one_last, among.leads)));
-              })
-              | inr beside ↦ inr (record {
-                after = beside.after;
-                is_after = beside.is_after;
-                picks = first ∷ beside.picks;
-                leads = (cross.still, lead.1, (cross.end, (cross.one_last, beside.leads)));
-              })
-            ]
-      ]
+      first_beside picks now lead.2.0 end next first pick lead.0 lead.1 lead.2.1.0 lead.2.1.1 goes
+      (λ behind is_behind. one_beside picks lead.2.0 end behind pick lead.2.1.1 is_behind)
 
   -- ---- a schedule beside unseen steps
 

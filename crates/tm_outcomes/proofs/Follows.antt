@@ -117,6 +117,7 @@ module _ (trial : Trial) (schedules more : List (List Pick)) where
     outcome = λ now leads. shown.outcome now (from_grown index now within leads);
     end = λ now leads. shown.end now (from_grown index now within leads);
     stops = λ now leads. shown.stops now (from_grown index now within leads);
+    room = λ none now leads. shown.room none now (from_grown index now within leads);
     checks = λ now leads. shown.checks now (from_grown index now within leads);
   }
 

@@ -1,7 +1,7 @@
 -- A core that has stopped, and of which no store is pending, stays where it is, under each event.
 use Rattle.std.proofs.Common.{◌≡◌, ℕ, ◌<◌, Bool, true, false, cond, List, [], Option, Some, None, length, refl, sym, ap}
 use Rattle.std.proofs.Common.{◌∙◌, arith}
-use Rattle.std.specs.Prelude.{nat_eq, nat_lt}
+use Rattle.std.specs.Prelude.{nat_eq, nat_lt, option_map}
 use Rattle.std.proofs.lemmas.Bool.{eqb-true, lt-ltb}
 use Rattle.ia_regs.specs.declared.Regs.{Regs}
 use Rattle.tm_rule.specs.declared.kinds.Stop.{Stop}
@@ -11,7 +11,8 @@ use Rattle.tm_model.specs.Conflicts.{addresses_loaded_by, addresses_written_by, 
 use Rattle.tm_model.specs.Owed.{owed_under}
 use Rattle.tm_model.specs.Setting.{Setting}
 use Rattle.tm_model.specs.State.{Core, Halted, Pending, seen_by}
-use Rattle.tm_model.specs.Steps.{Next, after_step, store_buffered}
+use Rattle.tm_model.specs.Steps.{Change, Next, after_step, settled, store_buffered}
+use Rattle.tm_model.specs.Types.{Store}
 use Rattle.tm_model.specs.declared.outcome.Event.{Event}
 use Rattle.tm_model.specs.declared.outcome.Event.TheVariants as event
 use Rattle.tm_model.specs.declared.outcome.Outcome.TheVariants.{Idle}
@@ -25,7 +26,19 @@ use Rattle.tm_outcomes.specs.declared.trial.Trial.{Trial}
 use Rattle.tm_outcomes.proofs.Crossing.{moved, picks, same_situation}
 use Rattle.tm_outcomes.proofs.Leads.{leads_stands, shows}
 use Rattle.tm_outcomes.proofs.Shown.{halted_is}
-use Rattle.tm_outcomes.proofs.UnseenCores.{at_once, settles, unbuffered, untouched}
+use Rattle.tm_outcomes.proofs.UnseenCores.{at_once, untouched}
+
+-- ---- a step that stores nothing leaves memory, and nothing pending
+
+settles : (memory : List ℕ) (next : Core) (store : Option Store) (change : Change) → store ≡ None
+    → change ≡ Some (memory, next) → option_map (settled memory [] store) change ≡ Some (memory, ([], next))
+settles memory next store change none is =
+    ap (λ (w : Option Store). option_map (settled memory [] w) change) none
+    ∙ ap (option_map (settled memory [] None)) is
+
+unbuffered : (t : Bool) (store : Option Store) → store ≡ None → cond t None store ≡ None
+unbuffered true store none = refl
+unbuffered false store none = none
 
 owed_idle : (by : Option Event) (setting : Setting) (memory : List ℕ) (regs : Regs) (stop : Stop) (doom : Option ℕ) →
     owed_under by setting memory [] (Halted regs stop) doom ≡ Idle

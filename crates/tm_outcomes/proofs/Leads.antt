@@ -10,17 +10,17 @@ use Rattle.tm_model.specs.declared.outcome.Event.{Event}
 use Rattle.tm_model.specs.declared.outcome.Event.TheVariants as event
 use Rattle.tm_model.specs.declared.outcome.Outcome.{Outcome}
 use Rattle.tm_model.specs.declared.outcome.Pick.{Pick}
-use Rattle.tm_outcomes.specs.Following.{AreKnownAt, befalls}
+use Rattle.tm_outcomes.specs.Following.{AreKnownAt, BefallsAt, IsUntouchedAt, befalls}
 use Rattle.tm_outcomes.specs.Nodes.{BefallsBehind, IsTree, IsUntouchedBehind, LeadsTo, schedule_at}
 use Rattle.tm_outcomes.specs.Verdicts.{AreSame}
 use Rattle.tm_outcomes.specs.Outcomes.{Befalls, trial_opening, trial_setting}
-use Rattle.tm_outcomes.specs.Places.{AreAlike, IsAt, are_pending, is_open}
+use Rattle.tm_outcomes.specs.Places.{AreAlike, DrainsAsItSteps, IsAt, are_pending, is_open}
 use Rattle.tm_outcomes.specs.Schedules.{Situation, after_schedule, with_state}
 use Rattle.tm_outcomes.specs.declared.nodes.Node.{Node}
 use Rattle.tm_outcomes.specs.declared.place.Place.{Place}
 use Rattle.tm_outcomes.specs.declared.searching.Followed.{Followed}
 use Rattle.tm_outcomes.specs.declared.trial.Trial.{Trial}
-use Rattle.tm_outcomes.proofs.Shown.{befallen, befalls_shown, same_under}
+use Rattle.tm_outcomes.proofs.Shown.{befallen as befallen_shown, befalls_shown, same_under}
 use Rattle.tm_outcomes.proofs.Somes.{same_in}
 
 -- what a machine shows, under the rules of its trial
@@ -133,26 +133,44 @@ befallen_at trial schedule place core by is_core at befalls = λ now is_run.
     let view : View = view_at place.machine core in
     subst (λ (x : Situation). Befalls (Some by) (x.state.pending core) (x.state.cores core) (x.doomed core))
     (same_in (sym at.is_run ∙ is_run))
-    (befallen by (trial_setting trial) (seen_by at.now.state core) (at.now.state.pending core) (at.now.state.cores core)
-    (at.now.doomed core) view (shows place.machine (trial_setting trial) at.now at.rules at.stands core below)
+    (befallen_shown by (trial_setting trial) (seen_by at.now.state core) (at.now.state.pending core)
+    (at.now.state.cores core) (at.now.doomed core) view
+    (shows place.machine (trial_setting trial) at.now at.rules at.stands core below)
     (subst (λ (q : Pending). befalls_shown by view.mode q ≡ true) (at.stands.same_pending core below) befalls))
+
+-- the step of a core that waits, or of which no store is pending, is under a drain what it is under none
+undrained_at : (trial : Trial) (schedule : List Pick) (place : Place) (core : ℕ) → IsAt trial place schedule →
+    ((now : Situation) → StandsFor place.machine now.state now.doomed →
+    DrainsAsItSteps (machine_setting place.machine) now core) →
+    IsUntouchedBehind trial schedule core event.Drain
+undrained_at trial schedule place core at drains = λ end now is_run same.
+    let setting : Setting = trial_setting trial in
+    ap (λ (o : Outcome). option_map (with_state setting now core o) (step setting now.state core o))
+    (subst (λ (s : Setting). DrainsAsItSteps s now core) at.rules
+    (drains now (stands_same trial schedule place end now at is_run same)))
 
 -- so it is known of each event by what was asked of the place
 pub known_at : (trial : Trial) (nodes : List Node) (index core : ℕ) (place : Place) (followed : Followed) →
     core < length trial.program.now.entries →
     ((schedules : List (List Pick)) → IsTree trial nodes schedules → IsAt trial place (schedule_at schedules index)) →
     followed.was_open ≡ is_open (view_at place.machine core).mode →
-    followed.had_pending ≡ are_pending (pending_at place.machine core) →
+    (followed.drains_apart ≡ true → are_pending (pending_at place.machine core) ≡ true) →
+    (followed.drains_apart ≡ false → (now : Situation) → StandsFor place.machine now.state now.doomed →
+    DrainsAsItSteps (machine_setting place.machine) now core) →
     AreKnownAt trial nodes index core followed
-known_at trial nodes index core place followed is_core at opened drains = record {
-  untouched = λ by none schedules tree.
-      untouched_at trial (schedule_at schedules index) place core by is_core (at schedules tree)
-      (sym (told by) ∙ none);
-  befallen = λ by some schedules tree.
-      befallen_at trial (schedule_at schedules index) place core by is_core (at schedules tree) (sym (told by) ∙ some);
-}
+known_at trial nodes index core place followed is_core at opened pends same =
+    record { untouched = not_befallen; befallen = befallen }
   where
-    told : (by : Event)
-        → befalls followed by ≡ befalls_shown by (view_at place.machine core).mode (pending_at place.machine core)
-    told (event.Abort by) = opened
-    told event.Drain = drains
+    not_befallen : (by : Event) → befalls followed by ≡ false → IsUntouchedAt trial nodes index core by
+    not_befallen (event.Abort by) none schedules tree =
+        untouched_at trial (schedule_at schedules index) place core (event.Abort by) is_core (at schedules tree)
+        (sym opened ∙ none)
+    not_befallen event.Drain none schedules tree =
+        undrained_at trial (schedule_at schedules index) place core (at schedules tree) (same none)
+
+    befallen : (by : Event) → befalls followed by ≡ true → BefallsAt trial nodes index core by
+    befallen (event.Abort by) some schedules tree =
+        befallen_at trial (schedule_at schedules index) place core (event.Abort by) is_core (at schedules tree)
+        (sym opened ∙ some)
+    befallen event.Drain some schedules tree =
+        befallen_at trial (schedule_at schedules index) place core event.Drain is_core (at schedules tree) (pends some)

@@ -6,9 +6,12 @@ pub mod Alone
 pub mod UnseenCores
 pub mod Crossing
 pub mod Catching
+pub mod Waiting
+pub mod Larger
 pub mod Shown
 pub mod Resting
 pub mod Leads
+pub mod Buffers
 pub mod Idling
 pub mod Tables
 pub mod Trees

@@ -10,7 +10,7 @@ use Rattle.tm_core.specs.Theorem.{StandsFor}
 use Rattle.tm_model.specs.Isolated.{Body, isolated_body}
 use Rattle.tm_model.specs.Setting.{Setting}
 use Rattle.tm_model.specs.Shown.{View, view_inside, view_midway, view_of, view_of_body}
-use Rattle.tm_model.specs.State.{Closed, Core, Halted, Midway, Opened}
+use Rattle.tm_model.specs.State.{Closed, Core, Halted, Midway, Opened, Pending, seen_memory}
 use Rattle.tm_model.specs.declared.outcome.Pick.{Pick}
 use Rattle.tm_rule.specs.declared.kinds.OutsideResult.{OutsideResult}
 use Rattle.tm_rule.specs.declared.kinds.OutsideResult.TheVariants.{Goes, Begins, Stops}
@@ -28,43 +28,49 @@ use Rattle.tm_outcomes.proofs.Sparing.{IsUsualIn}
 
 -- ---- by what a machine shows
 
-abbrev pub unseen_by : Setting → List ℕ → View → Bool
-unseen_by setting memory view =
-    cond (is_condemned view.mode) true (cond (is_running view.mode) (touches_nothing setting memory view.base) false)
+abbrev pub unseen_by : Setting → List ℕ → Pending → View → Bool
+unseen_by setting memory pending view =
+    cond (is_condemned view.mode) true
+    (cond (is_running view.mode) (touches_nothing setting memory pending view.base) false)
 
-midway_quiet : (setting : Setting) (memory : List ℕ) (regs : Regs) (value : ℕ) (result : OutsideResult) (view : View) →
-    view_midway regs value result ≡ Some view → false ≡ unseen_by setting memory view
-midway_quiet setting memory regs value (Goes next store) view e =
-    subst (λ (v : View). false ≡ unseen_by setting memory v) (same_in e) refl
-midway_quiet setting memory regs value (Begins next) view e = absurd (cc)
-midway_quiet setting memory regs value (Stops stop) view e = absurd (cc)
+midway_quiet : (setting : Setting) (memory : List ℕ) (pending : Pending) (regs : Regs) (value : ℕ)
+    (result : OutsideResult) (view : View) →
+    view_midway regs value result ≡ Some view → false ≡ unseen_by setting memory pending view
+midway_quiet setting memory pending regs value (Goes next store) view e =
+    subst (λ (v : View). false ≡ unseen_by setting memory pending v) (same_in e) refl
+midway_quiet setting memory pending regs value (Begins next) view e = absurd (cc)
+midway_quiet setting memory pending regs value (Stops stop) view e = absurd (cc)
 
-body_quiet : (setting : Setting) (memory : List ℕ) (regs : Regs) (body : Body) (ended : Bool) (view : View) →
-    cond ended None (Some (view_of_body regs body)) ≡ Some view → false ≡ unseen_by setting memory view
-body_quiet setting memory regs body true view e = absurd (cc)
-body_quiet setting memory regs body false view e =
-    subst (λ (v : View). false ≡ unseen_by setting memory v) (same_in e) refl
+body_quiet : (setting : Setting) (memory : List ℕ) (pending : Pending) (regs : Regs) (body : Body) (ended : Bool)
+    (view : View) →
+    cond ended None (Some (view_of_body regs body)) ≡ Some view → false ≡ unseen_by setting memory pending view
+body_quiet setting memory pending regs body true view e = absurd (cc)
+body_quiet setting memory pending regs body false view e =
+    subst (λ (v : View). false ≡ unseen_by setting memory pending v) (same_in e) refl
 
-open_quiet : (setting : Setting) (memory : List ℕ) (regs : Regs) (body : Option Body) (view : View) →
-    option_and_then (view_inside regs) body ≡ Some view → false ≡ unseen_by setting memory view
-open_quiet setting memory regs (Some body) view e = body_quiet setting memory regs body (nat_eq body.depth 0) view e
-open_quiet setting memory regs None view e = absurd (cc)
+open_quiet : (setting : Setting) (memory : List ℕ) (pending : Pending) (regs : Regs) (body : Option Body) (view : View)
+    → option_and_then (view_inside regs) body ≡ Some view → false ≡ unseen_by setting memory pending view
+open_quiet setting memory pending regs (Some body) view e =
+    body_quiet setting memory pending regs body (nat_eq body.depth 0) view e
+open_quiet setting memory pending regs None view e = absurd (cc)
 
-pub unseen_shown : (setting : Setting) (memory : List ℕ) (core : Core) (doom : Option ℕ) (view : View) →
-    view_of setting memory core doom ≡ Some view → is_unseen setting memory core doom ≡ unseen_by setting memory view
-unseen_shown setting memory (Closed regs) None view e =
-    subst (λ (v : View). touches_nothing setting memory regs ≡ unseen_by setting memory v) (same_in e) refl
-unseen_shown setting memory (Midway regs value) None view e =
-    midway_quiet setting memory regs value (setting.outside regs value) view e
-unseen_shown setting memory (Halted regs stop) None view e =
-    subst (λ (v : View). false ≡ unseen_by setting memory v) (same_in e) refl
-unseen_shown setting memory (Opened regs steps) None view e =
-    open_quiet setting memory regs (isolated_body setting regs memory steps) view e
-unseen_shown setting memory (Opened regs steps) (Some depth) view e =
-    subst (λ (v : View). true ≡ unseen_by setting memory v) (same_in e) refl
-unseen_shown setting memory (Closed regs) (Some depth) view e = absurd (cc)
-unseen_shown setting memory (Midway regs value) (Some depth) view e = absurd (cc)
-unseen_shown setting memory (Halted regs stop) (Some depth) view e = absurd (cc)
+pub unseen_shown : (setting : Setting) (memory : List ℕ) (pending : Pending) (core : Core) (doom : Option ℕ)
+    (view : View) → view_of setting (seen_memory memory pending) core doom ≡ Some view →
+    is_unseen setting memory pending core doom ≡ unseen_by setting memory pending view
+unseen_shown setting memory pending (Closed regs) None view e =
+    subst (λ (v : View). touches_nothing setting memory pending regs ≡ unseen_by setting memory pending v) (same_in e)
+    refl
+unseen_shown setting memory pending (Midway regs value) None view e =
+    midway_quiet setting memory pending regs value (setting.outside regs value) view e
+unseen_shown setting memory pending (Halted regs stop) None view e =
+    subst (λ (v : View). false ≡ unseen_by setting memory pending v) (same_in e) refl
+unseen_shown setting memory pending (Opened regs steps) None view e =
+    open_quiet setting memory pending regs (isolated_body setting regs (seen_memory memory pending) steps) view e
+unseen_shown setting memory pending (Opened regs steps) (Some depth) view e =
+    subst (λ (v : View). true ≡ unseen_by setting memory pending v) (same_in e) refl
+unseen_shown setting memory pending (Closed regs) (Some depth) view e = absurd (cc)
+unseen_shown setting memory pending (Midway regs value) (Some depth) view e = absurd (cc)
+unseen_shown setting memory pending (Halted regs stop) (Some depth) view e = absurd (cc)
 
 -- a core that runs is outside of transactions
 midway_waits : (regs : Regs) (value : ℕ) (result : OutsideResult) (view : View)
@@ -116,8 +122,7 @@ module _ (trial : Trial) where
   pub rests_once : (before after : Place) (pick : Pick) → IsUsualPick trial pick
       → GoesTo (trial_setting trial) before after pick →
       ((schedule : List Pick) → IsAt trial before schedule → IsAt trial after (schedule ++ pick ∷ [])) →
-      ((now : Situation) → StandsFor before.machine now.state now.doomed → IsUnseen (trial_setting trial) now pick.core)
-      →
+      ((now : Situation) → StandsFor before.machine now.state now.doomed → IsUnseen (trial_setting trial) now pick) →
       Rests trial before after (pick ∷ [])
   rests_once before after pick is goes at unseen = record {
     are_picks = All-cons (IsPickOf trial) pick [] is.is_pick (All-nil (IsPickOf trial));

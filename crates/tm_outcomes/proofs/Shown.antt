@@ -9,17 +9,21 @@ use Rattle.tm_rule.specs.declared.kinds.OutsideResult.TheVariants.{Goes, Begins,
 use Rattle.tm_rule.specs.declared.kinds.Stop.{Stop}
 use Rattle.std.proofs.lemmas.Bool.{false≢true}
 use Rattle.tm_model.specs.Isolated.{Body, isolated_body}
-use Rattle.tm_model.specs.Owed.{owed_under}
+use Rattle.tm_model.specs.Owed.{owed_outcome, owed_under}
 use Rattle.tm_model.specs.Setting.{Setting}
 use Rattle.tm_model.specs.Shown.{View, view_inside, view_midway, view_of, view_of_body, view_outside}
-use Rattle.tm_model.specs.State.{Closed, Core, Halted, Midway, Opened, Pending}
+use Rattle.tm_model.specs.State.{Closed, Core, Halted, Midway, Opened, Pending, seen_memory}
+use Rattle.tm_model.specs.Steps.{must_wait}
 use Rattle.tm_model.specs.declared.outcome.Event.{Event}
 use Rattle.tm_model.specs.declared.outcome.Event.TheVariants as event
 use Rattle.tm_model.specs.declared.outcome.Interference.{Interference}
+use Rattle.tm_model.specs.declared.outcome.Outcome.{Outcome}
+use Rattle.tm_model.specs.declared.outcome.Outcome.TheVariants.{Drained}
 use Rattle.tm_model.specs.declared.outcome.CoreState.{CoreState}
 use Rattle.tm_model.specs.declared.outcome.CoreState.TheVariants.{Running, Mid, Open, Condemned, Stopped as AtStop}
 use Rattle.tm_outcomes.specs.Outcomes.{Befalls, regs_of}
-use Rattle.tm_outcomes.specs.Places.{are_pending, has_stopped, is_open}
+use Rattle.tm_outcomes.specs.Places.{DrainsAsItSteps, are_pending, has_stopped, is_open}
+use Rattle.tm_outcomes.specs.Schedules.{Situation}
 use Rattle.tm_outcomes.specs.Verdicts.{HasStoppedBy}
 
 -- ---- each core's registers
@@ -201,6 +205,25 @@ befallen (event.Abort by) setting seen pending core doom view e befalls =
 pub none_pending : (pending : Pending) → are_pending pending ≡ false → pending ≡ []
 none_pending [] none = refl
 none_pending (oldest ∷ younger) none = absurd (false≢true (sym none))
+
+-- a drain of nothing that is pending is the core's step, and so is one where the core waits
+pub undrained : (setting : Setting) (now : Situation) (core : ℕ) → now.state.pending core ≡ [] →
+    DrainsAsItSteps setting now core
+undrained setting now core none =
+    let memory : List ℕ = now.state.memory in
+    let x : Core = now.state.cores core in
+    let doom : Option ℕ = now.doomed core in
+    ap (λ (q : Pending). owed_under (Some event.Drain) setting memory q x doom) none
+    ∙ sym (ap (λ (q : Pending). owed_under None setting memory q x doom) none)
+
+pub waits_drains : (setting : Setting) (memory : List ℕ) (pending : Pending) (core : Core) (doom : Option ℕ) →
+    must_wait setting (seen_memory memory pending) pending core
+    (owed_outcome setting (seen_memory memory pending) core doom) ≡ true →
+    owed_under (Some event.Drain) setting memory pending core doom ≡ owed_under None setting memory pending core doom
+waits_drains setting memory [] core doom waits = refl
+waits_drains setting memory (oldest ∷ younger) core doom waits =
+    let outcome : Outcome = owed_outcome setting (seen_memory memory (oldest ∷ younger)) core doom in
+    sym (ap (λ t. cond t Drained outcome) waits)
 
 -- a core that has stopped is in no transaction
 pub stopped_closed : (mode : CoreState) → has_stopped mode ≡ true → is_open mode ≡ false

@@ -1,5 +1,5 @@
 -- What a search tells that is over, and one that is cut.
-use Rattle.std.proofs.Common.{◌≡◌, ℕ, ◌≤◌, List, Option, length, sym, ap, ◌∙◌, subst, arith}
+use Rattle.std.proofs.Common.{◌≡◌, ℕ, ◌≤◌, false, List, Option, length, sym, ap, ◌∙◌, subst, arith}
 use Rattle.std.specs.Prelude.{All, IfSome}
 use Rattle.std.proofs.lemmas.Bool.{false≢true}
 use Rattle.tm_model.specs.declared.outcome.Pick.{Pick}
@@ -8,7 +8,8 @@ use Rattle.tm_outcomes.specs.Nodes.{IsTree}
 use Rattle.tm_outcomes.specs.Outcomes.{AreDistinct, AreTold, IsAllowed, IsSearch, IsTold, trial_setting}
 use Rattle.tm_outcomes.specs.Searching.{AreFindings, AreStops, AreViolations, IsCutOf, IsSearching, IsWholeOf}
 use Rattle.tm_outcomes.specs.Searching.{TellsWayless}
-use Rattle.tm_outcomes.specs.Verdicts.{IsCycle, IsStopTold, IsStuck, IsVerdict, IsViolationTold}
+use Rattle.tm_outcomes.specs.Schedules.{Situation}
+use Rattle.tm_outcomes.specs.Verdicts.{HasWaiting, IsCycle, IsReached, IsStopTold, IsStuck, IsVerdict, IsViolationTold}
 use Rattle.tm_outcomes.specs.declared.cycle.Cycle.{Cycle}
 use Rattle.tm_outcomes.specs.declared.searching.Search.{Search}
 use Rattle.tm_outcomes.specs.declared.searching.Searching.{Searching}
@@ -21,6 +22,8 @@ use Rattle.tm_outcomes.specs.declared.written.Written.{Written}
 use Rattle.tm_outcomes.proofs.Catching.{stays_stopped}
 use Rattle.tm_outcomes.proofs.Complete.{all_told, met, met_end}
 use Rattle.tm_outcomes.proofs.Kept.{are_different, has_found}
+use Rattle.tm_outcomes.proofs.Larger.{leads_alike}
+use Rattle.tm_outcomes.proofs.Waiting.{stays_waiting}
 use Rattle.tm_outcomes.proofs.Ways.{has_states, is_cycle, is_free, is_stuck}
 
 module _ (trial : Trial) (most done : ℕ) (search : Searching) (schedules : List (List Pick)) (told : Search)
@@ -37,6 +40,14 @@ module _ (trial : Trial) (most done : ℕ) (search : Searching) (schedules : Lis
         limit = λ cut. absurd (false≢true (sym of.is_cut ∙ cut));
         few = (let f = searching.few in let s = of.states in omega arith);
       }
+
+  none_waits : told.waited ≡ false → (schedule : List Pick) (now : Situation) → IsReached trial schedule now →
+      ¬ HasWaiting (trial_setting trial) now
+  none_waits none schedule now reached waiting =
+      let there = met trial most done search schedules searching whole schedule now reached in
+      (searching.explored.shown there.index (let w = there.leads.within in omega arith)).room
+      (sym of.waited ∙ none) there.end there.leads
+      (stays_waiting (trial_setting trial) (IsAllowed trial.events) there.steps now there.end there.rests waiting)
 
   pub is_verdict : (written : Written) → AreApart trial search.nodes.items written → IsVerdict trial told
   is_verdict written apart =
@@ -70,6 +81,9 @@ module _ (trial : Trial) (most done : ℕ) (search : Searching) (schedules : Lis
             ((searching.explored.shown there.index (let w = there.leads.within in omega arith)).stops there.end
             there.leads why asked
             stopped_there);
+        waited = λ some. searching.found.waited (sym of.waited ∙ some);
+        no_wait = λ _ none. none_waits none;
+        larger = λ _ none some stores more. leads_alike trial some (none_waits none) stores more;
         violations = violated.told;
         violated_once = violated.once;
         no_violation = λ _ schedule end reached has_ended index check asked violates.
@@ -114,6 +128,9 @@ module _ (trial : Trial) (most : ℕ) (search : Searching) (told : Search) (full
         stops = all.told;
         once = all.once;
         no_stop = λ whole. absurd (false≢true (sym whole ∙ of.is_cut));
+        waited = λ some. found.waited (sym of.waited ∙ some);
+        no_wait = λ whole. absurd (false≢true (sym whole ∙ of.is_cut));
+        larger = λ whole. absurd (false≢true (sym whole ∙ of.is_cut));
         violations = violated.told;
         violated_once = violated.once;
         no_violation = λ whole. absurd (false≢true (sym whole ∙ of.is_cut));

@@ -46,10 +46,10 @@ IsUntouchedAt trial nodes index core event =
     (schedules : List (List Pick)) → IsTree trial nodes schedules →
     IsUntouchedBehind trial (schedule_at schedules index) core event
 
--- whether an event befalls the core that was followed
+-- whether an event befalls the core that was followed, and makes another step of its own
 abbrev pub befalls : Followed → Event → Bool
 befalls followed (event.Abort by) = followed.was_open
-befalls followed event.Drain = followed.had_pending
+befalls followed event.Drain = followed.drains_apart
 
 -- so it is known of each event
 pub record AreKnownAt (trial : Trial) (nodes : List Node) (index core : ℕ) (followed : Followed) : Type 0 where

@@ -1,6 +1,7 @@
 pub mod Schedules
 pub mod Unseen
 pub mod Outcomes
+pub mod Larger
 pub mod Verdicts
 pub mod Places
 pub mod Links

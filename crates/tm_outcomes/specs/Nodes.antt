@@ -1,6 +1,6 @@
 -- The states that a search has met, each as the last step of a schedule that leads there, and the node of the rest.
 use Rattle.std.specs.Prelude.{◌≡◌, ◌⊎◌, ℕ, ◌^◌, ◌<◌, List, [], ◌∷◌, ◌++◌, All, Contains, Some, None, length, map}
-use Rattle.std.specs.Prelude.{slice_get, slice_index_or}
+use Rattle.std.specs.Prelude.{false, slice_get, slice_index_or}
 use Rattle.tm_condition.specs.Conditions.{Violates}
 use Rattle.tm_condition.specs.declared.check.Check.{Check}
 use Rattle.tm_model.specs.declared.outcome.Event.{Event}
@@ -12,7 +12,7 @@ use Rattle.tm_outcomes.specs.Outcomes.{usual_event, value_of}
 use Rattle.tm_outcomes.specs.Places.{AreAlike, IsAt}
 use Rattle.tm_outcomes.specs.Schedules.{HasEnded, Situation, after_pick, after_schedule}
 use Rattle.tm_outcomes.specs.Unseen.{LeadUnseen}
-use Rattle.tm_outcomes.specs.Verdicts.{AreSame, IsStopTold, IsViolationTold, StopsBy, seen_at}
+use Rattle.tm_outcomes.specs.Verdicts.{AreSame, HasWaiting, IsStopTold, IsViolationTold, StopsBy, seen_at}
 use Rattle.tm_outcomes.specs.declared.findings.Findings.{Findings}
 use Rattle.tm_outcomes.specs.declared.links.Link.{Link}
 use Rattle.tm_outcomes.specs.declared.nodes.Node.{Node}
@@ -160,6 +160,8 @@ pub record IsShown (trial : Trial) (schedules : List (List Pick)) (found : Findi
       Contains found.ends.items index
   pub stops : (now : Situation) → LeadsTo trial schedules index now → (why : Stop) → Contains trial.stops.now why →
       StopsBy now.state why → IsStopTold found.stops.items why
+  pub room : found.waited ≡ false → (now : Situation) → LeadsTo trial schedules index now →
+      ¬ HasWaiting (trial_setting trial) now
   pub checks : (now : Situation) → LeadsTo trial schedules index now → HasEnded now.state → (check : ℕ) (what : Check) →
       slice_get trial.checks.now check ≡ Some what → Violates (seen_at now.state) what →
       IsViolationTold found.violations.items check

@@ -3,11 +3,12 @@ use Rattle.std.specs.Prelude.{◌≡◌, ℕ, Bool, true, false, ◌<◌, List, 
 use Rattle.tm_core.specs.Theorem.{StandsFor, machine_setting, pending_at, view_at}
 use Rattle.tm_model.specs.Setting.{Setting}
 use Rattle.tm_model.specs.State.{Pending}
+use Rattle.tm_model.specs.declared.outcome.Event.TheVariants as event
 use Rattle.tm_model.specs.declared.outcome.Pick.{Pick}
 use Rattle.tm_model.specs.declared.outcome.CoreState.{CoreState}
 use Rattle.tm_model.specs.declared.outcome.CoreState.TheVariants.{Running, Mid, Open, Condemned, Stopped as AtStop}
 use Rattle.tm_outcomes.specs.Outcomes.{trial_opening, trial_setting}
-use Rattle.tm_outcomes.specs.Schedules.{Situation, after_pick, after_schedule}
+use Rattle.tm_outcomes.specs.Schedules.{Situation, after_pick, after_schedule, owed_by}
 use Rattle.tm_outcomes.specs.declared.place.Place.{Place}
 use Rattle.tm_outcomes.specs.declared.replay.Ahead.{Ahead}
 use Rattle.tm_outcomes.specs.declared.trial.Trial.{Trial}
@@ -54,6 +55,11 @@ is_open (AtStop stop) = false
 abbrev pub are_pending : Pending → Bool
 are_pending [] = false
 are_pending (oldest ∷ younger) = true
+
+-- under a drain the next step of a core is what it is under no event: none of its stores is pending, or it waits
+abbrev pub DrainsAsItSteps : Setting → Situation → ℕ → Type 0
+DrainsAsItSteps setting now core =
+    owed_by setting now (record { core = core; event = Some event.Drain }) ≡ owed_by setting now (alone core)
 
 -- memory is the same, and what is shown of each core, with its stores that are pending
 pub record AreAlike (a b : Place) : Type 0 where

@@ -11,7 +11,7 @@ use Rattle.tm_outcomes.specs.Nodes.{schedule_at}
 use Rattle.tm_outcomes.specs.Outcomes.{AreDistinct, AreUsual, IsAllowed, IsTold, trial_opening, trial_setting}
 use Rattle.tm_outcomes.specs.Places.{IsAt}
 use Rattle.tm_outcomes.specs.Schedules.{HasEnded, Situation, after_schedule}
-use Rattle.tm_outcomes.specs.Verdicts.{IsStop, IsViolation, LeadsBack}
+use Rattle.tm_outcomes.specs.Verdicts.{HasWaited, IsStop, IsViolation, LeadsBack}
 use Rattle.tm_outcomes.specs.Written.{IsPlaceIn, KeepsNoted}
 use Rattle.tm_outcomes.specs.declared.cycle.Cycle.{Cycle}
 use Rattle.tm_outcomes.specs.declared.findings.Findings.{Findings}
@@ -43,6 +43,7 @@ pub record AreFindings (trial : Trial) (found : Findings) : Type 0 where
   pub once : AreDistinct found.outcomes.items
   pub stops : AreStops trial found.stops.items
   pub violations : AreViolations trial found.violations.items
+  pub waited : found.waited ≡ true → HasWaited trial
 
 -- at one node more all is found, and nothing is lost
 pub record Shows (trial : Trial) (schedules : List (List Pick)) (before after : Findings) (index : ℕ) : Type 0 where
@@ -159,6 +160,7 @@ pub record IsWholeOf (trial : Trial) (search : Searching) (told : Search) : Type
   pub outcomes : told.outcomes ≡ search.found.outcomes
   pub stops : told.stops ≡ search.found.stops
   pub violations : told.violations ≡ search.found.violations
+  pub waited : told.waited ≡ search.found.waited
   pub states : told.states ≡ length search.nodes.items
   pub is_cut : told.is_cut ≡ false
   pub verdict : IsVerdictOf trial search.nodes.items search.links.items search.found.ends.items
@@ -169,6 +171,7 @@ pub record IsCutOf (search : Searching) (told : Search) : Type 0 where
   pub outcomes : told.outcomes ≡ search.found.outcomes
   pub stops : told.stops ≡ search.found.stops
   pub violations : told.violations ≡ search.found.violations
+  pub waited : told.waited ≡ search.found.waited
   pub states : told.states ≡ length search.nodes.items
   pub is_cut : told.is_cut ≡ true
   pub stuck : told.stuck ≡ None

@@ -1,15 +1,19 @@
 -- What a search says of states from which no schedule leads to an end, of cycles that can be made for ever, of cores
 -- that stop for a reason, and of ends that violate a check.
-use Rattle.std.specs.Prelude.{◌≡◌, ◌≢◌, ℕ, ◌<◌, Bool, true, false, List, [], All, Contains, Some, None, IfSome, length}
-use Rattle.std.specs.Prelude.{slice_get, slice_index_or}
+use Rattle.std.specs.Prelude.{◌≡◌, ◌≢◌, ℕ, ◌<◌, ◌≤◌, Bool, true, false, List, [], All, Contains, Some, None, IfSome}
+use Rattle.std.specs.Prelude.{length, slice_get, slice_index_or}
 use Rattle.std.specs.List.{AllPairs, Any}
 use Rattle.ia_regs.specs.declared.Regs.{Regs}
 use Rattle.tm_condition.specs.Conditions.{Seen, Violates}
 use Rattle.tm_condition.specs.declared.check.Check.{Check}
+use Rattle.tm_model.specs.Owed.{owed_outcome}
+use Rattle.tm_model.specs.Setting.{Setting}
 use Rattle.tm_model.specs.Shown.{view_of}
 use Rattle.tm_model.specs.State.{Core, Halted, State, seen_by}
+use Rattle.tm_model.specs.Steps.{must_wait, needs_none}
 use Rattle.tm_model.specs.declared.outcome.Pick.{Pick}
 use Rattle.tm_rule.specs.declared.kinds.Stop.{Stop}
+use Rattle.tm_outcomes.specs.Larger.{LeadsAlike}
 use Rattle.tm_outcomes.specs.Marks.{unmarked}
 use Rattle.tm_outcomes.specs.Outcomes.{AreAllowed, AreUsual, IsAllowed, IsSparing, regs_of, trial_opening}
 use Rattle.tm_outcomes.specs.Outcomes.{trial_setting}
@@ -164,13 +168,34 @@ pub record IsViolation (trial : Trial) (told : Violation) : Type 0 where
 abbrev pub IsViolationTold : List Violation → ℕ → Type 0
 IsViolationTold violations check = Any (λ told. told.check ≡ check) violations
 
+-- ---- room for stores
+
+-- The next step of a core waits for room: it stores, and as many of its stores are pending as may be. It is none that
+-- would wait at any size, until no store is pending.
+pub record WaitsForRoom (setting : Setting) (now : Situation) (core : ℕ) : Type 0 where
+  pub waits : must_wait setting (seen_by now.state core) (now.state.pending core) (now.state.cores core)
+      (owed_outcome setting (seen_by now.state core) (now.state.cores core) (now.doomed core)) ≡ true
+  pub at_room : needs_none setting (now.state.cores core)
+      (owed_outcome setting (seen_by now.state core) (now.state.cores core) (now.doomed core)) ≡ false
+
+-- that of some core does
+abbrev pub HasWaiting : Setting → Situation → Type 0
+HasWaiting setting now = (core : ℕ) × (core < now.state.count) × WaitsForRoom setting now core
+
+-- and some schedule leads there
+abbrev pub HasWaited : Trial → Type 0
+HasWaited trial =
+    (schedule : List Pick) × (now : Situation) × IsReached trial schedule now × HasWaiting (trial_setting trial) now
+
 -- ---- what is told
 
 -- No schedule is told as stuck behind which some schedule ends, no steps as a cycle that do not lead back, no schedule
 -- for a stop that it does not lead to, and none for a check that its end does not violate; and where the search was
 -- not cut and tells none, each schedule goes on to an end, none leads to a stop that is looked for, and each end passes
 -- each check. Where it was cut, none is told as stuck, and no cycle. No step of a schedule that is told comes under an
--- event without need. As many states are told as were found, cut or not, none of them twice.
+-- event without need. As many states are told as were found, cut or not, none of them twice. It tells that a step waits
+-- for room only where one does; and where it was not cut and does not tell it, none does, and with room for one store
+-- or more each schedule leads to the same as with room for any larger number.
 pub record IsVerdict (trial : Trial) (search : Search) : Type 0 where
   pub stuck : IfSome search.stuck (λ told. IsStuck trial told.schedule.items)
   pub free : search.is_cut ≡ false → search.stuck ≡ None → (schedule : List Pick) (now : Situation) →
@@ -184,6 +209,11 @@ pub record IsVerdict (trial : Trial) (search : Search) : Type 0 where
   pub once : AllPairs (λ one other. one.why ≢ other.why) search.stops.items
   pub no_stop : search.is_cut ≡ false → (schedule : List Pick) (now : Situation) → IsReached trial schedule now →
       (why : Stop) → Contains trial.stops.now why → StopsBy now.state why → IsStopTold search.stops.items why
+  pub waited : search.waited ≡ true → HasWaited trial
+  pub no_wait : search.is_cut ≡ false → search.waited ≡ false → (schedule : List Pick) (now : Situation) →
+      IsReached trial schedule now → ¬ HasWaiting (trial_setting trial) now
+  pub larger : search.is_cut ≡ false → search.waited ≡ false → 0 < trial.limits.stores → (stores : ℕ) →
+      trial.limits.stores ≤ stores → LeadsAlike stores trial
   pub violations : All (IsViolation trial) search.violations.items
   pub violated_once : AllPairs (λ one other. one.check ≢ other.check) search.violations.items
   pub no_violation : search.is_cut ≡ false → (schedule : List Pick) (end : Situation) → IsReached trial schedule end →

@@ -1,11 +1,11 @@
 //! What was found at the states of a search.
 //!
-//! [`Findings::show`] is called for each state when it is gone on from: it takes up stops of any state, and of an
-//! end the checks that it violates, its node, and then its outcome. States come in the order in which they were
-//! met, so the first schedule that shows something has the fewest steps that are followed. Whether an end can be
-//! reached is asked when the search is over, by `verdict`.
+//! [`Findings::show`] is called for each state when it is gone on from: it takes up whether a step waits for room and
+//! stops of any state, and of an end the checks that it violates, its node, and then its outcome. States come in the
+//! order in which they were met, so the first schedule that shows something has the fewest steps that are followed.
+//! Whether an end can be reached is asked when the search is over, by `verdict`.
 
-ghost use Rattle.std.specs.Prelude.{◌≡◌, ◌<◌, ◌++◌, ◌∷◌, [], IfErr, IfOk, List, OnOk, length};
+ghost use Rattle.std.specs.Prelude.{◌≡◌, ◌<◌, ◌++◌, ◌∷◌, [], IfErr, IfOk, List, OnOk, false, length};
 ghost use Rattle.tm_model.specs.declared.outcome.Pick.{Pick};
 ghost use Rattle.tm_outcomes.specs.Nodes.{AreNodesOf, IsTree};
 ghost use Rattle.tm_outcomes.specs.Outcomes.{AreThere, IsRefusal};
@@ -15,6 +15,7 @@ ghost use Rattle.tm_outcomes.specs.Written.{IsBenchOf};
 use crate::bench::Bench;
 use crate::fault::SearchFault;
 use crate::nodes::{Node, NodeState, schedule_of};
+use crate::room::take_up_wait;
 use crate::stops::{ReachedStop, take_up_stops};
 use crate::table::{FoundOutcome, take_up};
 use crate::task::Task;
@@ -32,6 +33,8 @@ pub struct Findings {
     pub stops: Vec<ReachedStop>,
     /// The checks that an end violates.
     pub violations: Vec<Violation>,
+    /// Whether a step waits for room among the stores that are pending.
+    pub waited: bool,
 }
 
 impl Findings {
@@ -41,12 +44,14 @@ impl Findings {
         ensures ends { result.ends.items ≡ [] }
         ensures stops { result.stops.items ≡ [] }
         ensures violations { result.violations.items ≡ [] }
+        ensures waited { result.waited ≡ false }
     {
         Findings {
             outcomes: Vec::new(alloc),
             ends: Vec::new(alloc),
             stops: Vec::new(alloc),
             violations: Vec::new(alloc),
+            waited: false,
         }
     }
 
@@ -76,6 +81,7 @@ impl Findings {
             index,
             place: &bench.start,
         };
+        take_up_wait(task, &at, &mut self.waited);
         // A core may stop while others go on for ever: this is no matter of ends.
         take_up_stops(task, &at, &mut self.stops)?;
         if !bench.start.has_ended() {

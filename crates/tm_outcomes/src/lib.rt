@@ -15,7 +15,8 @@
 //!
 //! Where stores may be pending, a drain is followed of each core of which one is, if the trial has it among its events;
 //! a step that waits is one as well. No cycle is told then, as a store that stays pending for ever is no fault of the
-//! program.
+//! program. Whether a step waits for room is told, as where more stores may be pending other outcomes may follow; where
+//! the search is not cut and tells none, none does, whatever the schedule.
 //!
 //! Two states count as one where memory and what is shown of each core are the same: the machine's steps are a
 //! function of these. Behind each step that is followed, the steps of all cores are made at once that no other core
@@ -40,6 +41,7 @@ mod nodes;
 mod place;
 mod replay;
 mod rest;
+mod room;
 mod searching;
 mod stops;
 mod stuck;

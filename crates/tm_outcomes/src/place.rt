@@ -5,9 +5,10 @@
 //! store to (`written`). Schedules are made by `replay`, unseen steps by `rest`.
 
 ghost use Rattle.std.specs.Prelude.{◌≡◌, ◌↔◌, ◌+◌, ◌*◌, ◌^◌, ◌<◌, ◌++◌, ◌∷◌, [], List, IfErr, IfOk, IsOk, IsTrue};
-ghost use Rattle.std.specs.Prelude.{false, length, map};
+ghost use Rattle.std.specs.Prelude.{false, length, map, true};
 ghost use Rattle.tm_core.specs.Reopening.{IsSameElsewhere};
-ghost use Rattle.tm_core.specs.Theorem.{SameMachine, StandsFor, TakesStepUnder, pending_at, view_at};
+ghost use Rattle.tm_core.specs.Theorem.{SameMachine, StandsFor, TakesStepUnder, machine_setting, pending_at};
+ghost use Rattle.tm_core.specs.Theorem.{view_at};
 ghost use Rattle.tm_model.specs.Conflicts.{Doomed};
 ghost use Rattle.tm_model.specs.State.{State};
 ghost use Rattle.tm_outcomes.specs.Outcomes.{AreThere, IsRefusal, IsThere, trial_setting, value_of};
@@ -15,7 +16,8 @@ ghost use Rattle.tm_model.specs.declared.outcome.Pick.{Pick};
 ghost use Rattle.tm_outcomes.specs.Digests.{digest_by, mixed_buffers, mixed_core, mixed_cores, mixed_lines};
 ghost use Rattle.tm_outcomes.specs.Digests.{mixed_pending, mixed_regs, mixed_rest};
 ghost use Rattle.tm_outcomes.specs.Digests.{mode_number};
-ghost use Rattle.tm_outcomes.specs.Places.{AreAlike, GoesTo, IsAt, IsPlaceOf, are_pending, has_stopped, is_open};
+ghost use Rattle.tm_outcomes.specs.Places.{AreAlike, DrainsAsItSteps, GoesTo, IsAt, IsPlaceOf, are_pending};
+ghost use Rattle.tm_outcomes.specs.Places.{has_stopped, is_open};
 ghost use Rattle.tm_outcomes.specs.Schedules.{HasEnded, Situation};
 ghost use Rattle.tm_condition.specs.Conditions.{Violates};
 ghost use Rattle.tm_outcomes.specs.Verdicts.{StopsBy, seen_at};
@@ -31,7 +33,7 @@ use ia_regs::Regs;
 use ia_word::Width;
 use std::alloc::{AllocError, Global};
 use tm_condition::Check;
-use tm_core::{Machine, MachineFault, NoSuchCore};
+use tm_core::{Buffering, Machine, MachineFault, NoSuchCore};
 use tm_model::{CoreState, Outcome, Pick};
 use tm_rule::Stop;
 use tm_whole::memory::read;
@@ -130,7 +132,7 @@ impl Place {
             if !self.machine.is_core_alike(&other.machine, core) {
                 return false;
             }
-            if !is_pending_alike(&self.machine, &other.machine, core) {
+            if !self.machine.is_pending_alike(&other.machine, core) {
                 return false;
             }
         }
@@ -143,26 +145,6 @@ impl Place {
     }
 }
 
-// Whether the same stores of a core are pending.
-fn is_pending_alike(a: &Machine, b: &Machine, core: u8) -> bool
-    requires here { core < length a.now.views }
-    requires there { core < length b.now.views }
-    ensures { IsTrue result ↔ (pending_at a.now core ≡ pending_at b.now core) }
-{
-    let (Ok(one), Ok(other)) = (a.pending(core), b.pending(core)) else {
-        unreachable!();
-    };
-    if one.len() != other.len() {
-        return false;
-    }
-    for index in 0..one.len() {
-        if one[index] != other[index] {
-            return false;
-        }
-    }
-    true
-}
-
 impl Place {
     /// Whether a store of a core is pending.
     pub fn has_pending(&self, core: u8) -> bool
@@ -171,6 +153,25 @@ impl Place {
     {
         match self.machine.pending(core) {
             Ok(stores) => !stores.is_empty(),
+            Err(_) => unreachable!(),
+        }
+    }
+
+    /// Whether a drain is another step of a core than its next one under no event: a store of it is pending, and its
+    /// step does not wait.
+    pub fn drains_apart(&self, core: u8) -> bool
+        requires { core < length self.now.machine.views }
+        ensures pending { result ≡ true → are_pending (pending_at self.now.machine core) ≡ true }
+        ensures same { result ≡ false → (now : Situation) → StandsFor self.now.machine now.state now.doomed →
+            DrainsAsItSteps (machine_setting self.now.machine) now core }
+    {
+        if !self.has_pending(core) {
+            return false;
+        }
+        match self.machine.ahead(core) {
+            Ok(Buffering::Waits(_wait)) => false,
+            Ok(Buffering::Pends) => true,
+            Ok(Buffering::Goes) => true,
             Err(_) => unreachable!(),
         }
     }

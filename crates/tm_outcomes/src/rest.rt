@@ -1,22 +1,24 @@
 //! Steps that no other core sees.
 //!
 //! Such a step touches no memory, conflicts with none, and is the same whatever the other cores do before it: in
-//! whichever order it and their steps are made, the same states follow. No store of its core is pending, so that no
-//! drain comes between. So a search makes these steps at once, and
-//! follows the others (`specs/Unseen.antt`).
+//! whichever order it and their steps are made, the same states follow. Where stores of its core are pending it does
+//! not wait for them, and is the same before a drain of the oldest and behind it; a store of its own is then pending,
+//! the last of all. So a search makes these steps at once, and follows the others (`specs/Unseen.antt`).
 
 ghost use Rattle.std.specs.Prelude.{◌≡◌, ◌<◌, ℕ, IfOk, length, true};
-ghost use Rattle.tm_core.specs.Theorem.{StandsFor, view_at};
+ghost use Rattle.tm_core.specs.Theorem.{StandsFor, pending_at, view_at};
 ghost use Rattle.tm_model.specs.Access.{loaded_addresses};
+ghost use Rattle.tm_model.specs.Explained.{addresses_stored_at};
+ghost use Rattle.tm_model.specs.Owed.{owed_outcome};
 ghost use Rattle.tm_model.specs.Setting.{program_setting};
-ghost use Rattle.tm_model.specs.State.{seen_by};
+ghost use Rattle.tm_model.specs.State.{Closed, seen_by};
 ghost use Rattle.tm_model.specs.declared.outcome.Pick.{Pick};
 ghost use Rattle.tm_outcomes.specs.Nodes.{IsPickOf};
 ghost use Rattle.tm_outcomes.specs.Outcomes.{trial_setting, usual_event};
 ghost use Rattle.tm_outcomes.specs.Places.{IsPlaceOf};
 ghost use Rattle.tm_outcomes.specs.Resting.{Advances, RestsBy, is_condemned, is_running};
 ghost use Rattle.tm_outcomes.specs.Schedules.{Situation};
-ghost use Rattle.tm_outcomes.specs.Unseen.{IsUnseen, are_none, is_unseen, touches_nothing};
+ghost use Rattle.tm_outcomes.specs.Unseen.{IsUnseen, are_none, drains, is_unseen, touches_nothing};
 
 use crate::place::Place;
 use crate::trial::{Events, Trial};
@@ -24,6 +26,7 @@ use ia_addr::Access;
 use ia_image::Program;
 use ia_regs::Regs;
 use std::alloc::{AllocError, Global};
+use tm_core::Buffering;
 use tm_model::{CoreState, Event, Pick};
 use tm_rule::{Code, fetch, load_at, row};
 
@@ -84,34 +87,55 @@ impl Trial<'_> {
 }
 
 impl Place {
-    // Whether the next instruction of a core outside of transactions touches no memory.
+    // Whether the instruction of the next step of a core, outside of transactions, stores nothing.
+    fn stores_nothing(&self, trial: &Trial<'_>, core: u8) -> bool
+        requires place { IsPlaceOf trial.now self.now }
+        requires core { core < length trial.now.program.now.entries }
+        requires running { is_running (view_at self.now.machine core).mode ≡ true }
+        ensures { (now : Situation) → StandsFor self.now.machine now.state now.doomed →
+            result ≡ are_none (addresses_stored_at (trial_setting trial.now) (seen_by now.state core)
+            (Closed (view_at self.now.machine core).base)
+            (owed_outcome (trial_setting trial.now) (seen_by now.state core)
+            (Closed (view_at self.now.machine core).base) None)) }
+    {
+        let Ok(preview) = self.machine.preview(core) else {
+            unreachable!();
+        };
+        is_absent(preview.reach.store)
+    }
+
+    // Whether the next step of a core outside of transactions touches no memory, and does not wait.
     fn touches_nothing(&self, trial: &Trial<'_>, core: u8) -> bool
         requires place { IsPlaceOf trial.now self.now }
         requires core { core < length trial.now.program.now.entries }
         requires running { is_running (view_at self.now.machine core).mode ≡ true }
         ensures { (now : Situation) → StandsFor self.now.machine now.state now.doomed →
-            result ≡ touches_nothing (trial_setting trial.now) (seen_by now.state core)
+            result ≡ touches_nothing (trial_setting trial.now) now.state.memory (now.state.pending core)
             (view_at self.now.machine core).base }
     {
         let Ok(regs) = self.machine.base_regs(core) else {
             unreachable!();
         };
-        let Ok(preview) = self.machine.preview(core) else {
-            unreachable!();
-        };
         if !loads_nothing(trial.program, &regs) {
             return false;
         }
-        is_absent(preview.reach.store)
+        let Ok(buffering) = self.machine.ahead(core) else {
+            unreachable!();
+        };
+        match buffering {
+            Buffering::Waits(_wait) => false,
+            Buffering::Pends => true,
+            Buffering::Goes => self.stores_nothing(trial, core),
+        }
     }
 
-    // Whether no other core sees the next step of a core, and none changes it.
+    // Whether no other core sees the next step of a core, and none changes it, and neither does a drain.
     fn is_unseen(&self, trial: &Trial<'_>, core: u8) -> bool
         requires place { IsPlaceOf trial.now self.now }
         requires core { core < length trial.now.program.now.entries }
         ensures { (now : Situation) → StandsFor self.now.machine now.state now.doomed →
-            result ≡ is_unseen (trial_setting trial.now) (seen_by now.state core) (now.state.cores core)
-            (now.doomed core) }
+            result ≡ is_unseen (trial_setting trial.now) now.state.memory (now.state.pending core)
+            (now.state.cores core) (now.doomed core) }
     {
         let Ok(state) = self.machine.state(core) else {
             unreachable!();
@@ -125,14 +149,26 @@ impl Place {
         self.touches_nothing(trial, core)
     }
 
-    // Whether no other core sees the next step of a core, and neither another core nor a drain changes it.
-    fn is_quiet(&self, trial: &Trial<'_>, core: u8) -> bool
-        requires place { IsPlaceOf trial.now self.now }
-        requires core { core < length trial.now.program.now.entries }
-        ensures { result ≡ true → (now : Situation) → StandsFor self.now.machine now.state now.doomed →
-            IsUnseen (trial_setting trial.now) now core }
+    // Whether the step of a pick is a drain, whatever its core is at.
+    fn drains(&self, pick: Pick) -> bool
+        requires { pick.core < length self.now.machine.views }
+        ensures { result ≡ drains pick.event (pending_at self.now.machine pick.core) }
     {
-        !self.has_pending(core) && self.is_unseen(trial, core)
+        match pick.event {
+            Some(Event::Drain) => self.has_pending(pick.core),
+            Some(Event::Abort(_by)) => false,
+            None => false,
+        }
+    }
+
+    // Whether the step of a pick is no drain and no other core sees it, and none changes it, nor does a drain.
+    fn is_quiet(&self, trial: &Trial<'_>, pick: Pick) -> bool
+        requires place { IsPlaceOf trial.now self.now }
+        requires core { pick.core < length trial.now.program.now.entries }
+        ensures { result ≡ true → (now : Situation) → StandsFor self.now.machine now.state now.doomed →
+            IsUnseen (trial_setting trial.now) now pick }
+    {
+        !self.drains(pick) && self.is_unseen(trial, pick.core)
     }
 
     // Whether a core is where it was at the mark, so that it goes round in a loop that touches no memory. The mark
@@ -175,7 +211,7 @@ impl Place {
             if self.has_come_back(core, steps.as_slice().len(), &mut mark) {
                 return Ok(());
             }
-            if !self.is_quiet(trial, core) {
+            if !self.is_quiet(trial, pick) {
                 return Ok(());
             }
             steps.push(pick)?;

@@ -63,6 +63,9 @@ pub struct Search {
     pub stops: Vec<ReachedStop>,
     /// The checks that an end violates, in the order in which they were found, each once.
     pub violations: Vec<Violation>,
+    /// Whether somewhere a step waits for room, since as many stores of its core are pending as may be: where more may
+    /// be, other outcomes may follow.
+    pub waited: bool,
 }
 
 /// The states that were met so far, and what was found at them.
@@ -94,18 +97,19 @@ pub struct Followed {
     pub progress: Progress,
     /// Whether the core was in a transaction that was not doomed, which an abort from outside of the program befalls.
     pub was_open: bool,
-    /// Whether a store of the core was pending, which a drain befalls.
-    pub had_pending: bool,
+    /// Whether a drain was another step of the core than its own: a store of it was pending, and it did not wait.
+    pub drains_apart: bool,
 }
 
 impl Followed {
-    // Whether an event befell the core. Where it did not, the core's step is under it what it is under none.
+    // Whether an event befell the core. Where not, the core's step is under it what it is under none: so under a drain
+    // too where the core waited, since its own step was that drain.
     fn befalls(&self, event: Event) -> bool
         ensures { result ≡ befalls self.now event }
     {
         match event {
             Event::Abort(_) => self.was_open,
-            Event::Drain => self.had_pending,
+            Event::Drain => self.drains_apart,
         }
     }
 }
@@ -192,7 +196,7 @@ impl Searching {
             return Ok(Followed {
                 progress: Progress::GoesOn,
                 was_open: false,
-                had_pending: false,
+                drains_apart: false,
             });
         }
         bench.set_out(task, self.nodes.as_slice(), index)?;
@@ -218,7 +222,7 @@ impl Searching {
         ensures err { IfErr result (IsRefusal task.now.trial) }
     {
         let was_open = bench.here.is_open(pick.core);
-        let had_pending = bench.here.has_pending(pick.core);
+        let drains_apart = bench.here.drains_apart(pick.core);
         // Before the step: behind it the machine tells no more what it could store to.
         bench
             .noted
@@ -231,7 +235,7 @@ impl Searching {
             return Ok(Followed {
                 progress: Progress::GoesOn,
                 was_open,
-                had_pending,
+                drains_apart,
             });
         }
         // Only a state that is new counts against the limit.
@@ -240,7 +244,7 @@ impl Searching {
             return Ok(Followed {
                 progress: Progress::IsCut,
                 was_open,
-                had_pending,
+                drains_apart,
             });
         }
         let number = self.nodes.len();
@@ -254,14 +258,15 @@ impl Searching {
         Ok(Followed {
             progress: Progress::GoesOn,
             was_open,
-            had_pending,
+            drains_apart,
         })
     }
 }
 
 impl Searching {
     // Takes up the states after the next step of a core: one under none of these events, and one under each that
-    // befalls it. Under any other its step is what it is under none, and leads nowhere else.
+    // befalls it, but for a drain that its step is already. Under any other its step is what it is under none, and
+    // leads nowhere else.
     fn follow_any(
         &mut self,
         task: &Task<'_>,
@@ -382,6 +387,7 @@ impl Searching {
             ends,
             stops,
             violations,
+            waited,
         } = found;
         let judged = Judged {
             nodes: nodes.as_slice(),
@@ -399,6 +405,7 @@ impl Searching {
             cycle,
             stops,
             violations,
+            waited,
         })
     }
 
@@ -422,6 +429,7 @@ impl Searching {
             ends,
             stops,
             violations,
+            waited,
         } = found;
         drop(ends);
         Search {
@@ -432,6 +440,7 @@ impl Searching {
             cycle: None,
             stops,
             violations,
+            waited,
         }
     }
 }

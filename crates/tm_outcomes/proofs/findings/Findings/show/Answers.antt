@@ -15,6 +15,10 @@ pub take_up_stops-requires-clause-at : goal.take_up_stops-requires-clause-at
 take_up_stops-requires-clause-at c =
     record { within = c.requires.within; tree = c.requires.nodes.tree; here = c.in_ok-come_to.ensures.start }
 
+pub take_up_wait-requires-clause-at : goal.take_up_wait-requires-clause-at
+take_up_wait-requires-clause-at c =
+    record { within = c.requires.within; tree = c.requires.nodes.tree; here = c.in_ok-come_to.ensures.start }
+
 pub take_up_checks-requires-clause-at : goal.take_up_checks-requires-clause-at
 take_up_checks-requires-clause-at c =
     record { within = c.requires.within; tree = c.requires.nodes.tree; here = c.in_ok-come_to.ensures.start }
@@ -64,6 +68,8 @@ returns-then-not-has_ended-clause-shows c = λ schedules tree.
         stops = λ now leads why asked stopped.
             c.in_ok-take_up_stops.ensures.found why asked now
             (leads_stands trial schedules c.args.index place now at leads) stopped;
+        room = λ none now leads.
+            c.take_up_wait.ensures.found none now (leads_stands trial schedules c.args.index place now at leads);
         checks = λ now leads ended. absurd (false≢true (sym c.if-not-has_ended.true
             ∙ (c.has_ended.ensures now (leads_stands trial schedules c.args.index place now at leads)).1 ended));
       };
@@ -73,6 +79,7 @@ returns-then-not-has_ended-clause-shows c = λ schedules tree.
         end = was.end;
         stops = λ now leads why asked stopped. c.in_ok-take_up_stops.ensures.kept why
             (was.stops now leads why asked stopped);
+        room = λ none now leads. was.room (c.take_up_wait.ensures.kept none) now leads;
         checks = was.checks;
       };
     }
@@ -102,6 +109,8 @@ returns-clause-shows c = λ schedules tree.
         stops = λ now leads why asked stopped.
             c.in_ok-take_up_stops.ensures.found why asked now
             (leads_stands trial schedules index place now at leads) stopped;
+        room = λ none now leads.
+            c.take_up_wait.ensures.found none now (leads_stands trial schedules index place now at leads);
         checks = λ now leads ended check what asked violates.
             c.in_ok-take_up_checks.ensures.found check what asked now
             (leads_stands trial schedules index place now at leads) violates;
@@ -115,6 +124,7 @@ returns-clause-shows c = λ schedules tree.
             (Contains-append_left before (index ∷ []) other (was.end now leads ended));
         stops = λ now leads why asked stopped. c.in_ok-take_up_stops.ensures.kept why
             (was.stops now leads why asked stopped);
+        room = λ none now leads. was.room (c.take_up_wait.ensures.kept none) now leads;
         checks = λ now leads ended check what asked violates.
             c.in_ok-take_up_checks.ensures.kept check (was.checks now leads ended check what asked violates);
       };

@@ -1,12 +1,13 @@
-use Rattle.std.proofs.Common.{◌<◌, ◌∙◌, length, sym, arith}
-use Rattle.tm_outcomes.proofs.Shown.{none_pending}
+use Rattle.std.proofs.Common.{◌<◌, ◌∙◌, length, sym, ap, arith}
+use Rattle.tm_outcomes.specs.Unseen.{drains}
 use Rattle.tm_outcomes.proofs.place.Place.is_quiet.Goals as goal
 
-pub returns-then-not-has_pending : goal.returns-then-not-has_pending
-returns-then-not-has_pending c = λ is now stands.
-    let below : c.args.core < length c.args.self.now.machine.views =
+pub returns-then-not-drains : goal.returns-then-not-drains
+returns-then-not-drains c = λ is now stands.
+    let pick = c.args.pick in
+    let below : pick.core < length c.args.self.now.machine.views =
     (let count = c.requires.place.count in let is_core = c.requires.core in omega arith) in (
-      sym (stands.same_pending c.args.core below)
-          ∙ none_pending _ (sym c.has_pending.ensures ∙ c.if-not-has_pending.true),
+      ap (drains pick.event) (sym (stands.same_pending pick.core below))
+          ∙ (sym c.drains.ensures ∙ c.if-not-drains.true),
       sym (c.is_unseen.ensures now stands) ∙ is,
     )

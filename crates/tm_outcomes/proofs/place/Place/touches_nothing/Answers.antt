@@ -1,59 +1,68 @@
-use Rattle.std.proofs.Common.{◌≡◌, true, false, ℕ, List, Option, None, sym, ap, ◌∙◌, subst, arith}
-use Rattle.std.specs.Prelude.{◌&&◌}
+use Rattle.std.proofs.Common.{◌≡◌, Bool, true, false, ℕ, sym, ◌∙◌, subst}
 use Rattle.ia_regs.specs.declared.Regs.{Regs}
+use Rattle.tm_core.specs.Buffering.{TellsAhead}
 use Rattle.tm_core.specs.Theorem.{view_at}
-use Rattle.tm_model.specs.Access.{loaded_addresses}
-use Rattle.tm_model.specs.Explained.{IsReachTold, addresses_stored_at}
-use Rattle.tm_model.specs.Owed.{owed_outcome}
-use Rattle.tm_model.specs.Setting.{Setting}
-use Rattle.tm_model.specs.State.{Closed, Core, seen_by}
+use Rattle.tm_core.specs.declared.buffering.Buffering.{Buffering}
+use Rattle.tm_core.specs.declared.buffering.Buffering.TheVariants as buffering
+use Rattle.tm_model.specs.Setting.{program_setting}
 use Rattle.tm_outcomes.specs.Outcomes.{trial_setting}
 use Rattle.tm_outcomes.specs.Unseen.{are_none}
-use Rattle.tm_outcomes.proofs.Leads.{shows}
-use Rattle.tm_outcomes.proofs.Resting.{closed_shown}
+use Rattle.tm_outcomes.specs.declared.trial.Trial.{Trial}
+use Rattle.tm_outcomes.proofs.Buffers.{goes_touches, loads_touches, pends_touches, told_ahead}
+use Rattle.tm_outcomes.proofs.Buffers.{waits_touches}
 use Rattle.tm_outcomes.proofs.place.Place.touches_nothing.Goals as goal
+
+-- what was asked of the registers
+loads_at : (trial : Trial) (regs base : Regs) (asked told : Bool) → base ≡ regs →
+    ((reads writes stores : ℕ) →
+    asked ≡ are_none ((program_setting trial.program.now reads writes stores).load_of regs)) → asked ≡ told →
+    are_none ((trial_setting trial).load_of base) ≡ told
+loads_at trial regs base asked told same is e =
+    subst (λ (r : Regs). are_none ((trial_setting trial).load_of r) ≡ told) (sym same)
+    (sym (is trial.limits.read_lines trial.limits.write_lines trial.limits.stores) ∙ e)
 
 pub returns-then-not-loads_nothing : goal.returns-then-not-loads_nothing
 returns-then-not-loads_nothing c = λ now stands.
     let trial = c.args.trial.now in
-    let setting : Setting = trial_setting trial in
     let base : Regs = (view_at c.args.self.now.machine c.args.core).base in
-    let loads : are_none (setting.load_of base) ≡ false =
-    subst (λ (regs : Regs). are_none (setting.load_of regs) ≡ false) c.in-Ok.ensures.shown
-    (sym (c.loads_nothing.ensures trial.limits.read_lines trial.limits.write_lines trial.limits.stores)
-    ∙ c.if-not-loads_nothing.true) in
-    sym (ap (λ t. t && are_none (addresses_stored_at setting (seen_by now.state c.args.core) (Closed base)
-    (owed_outcome setting (seen_by now.state c.args.core) (Closed base) None))) loads)
+    loads_touches (trial_setting trial) now.state.memory (now.state.pending c.args.core) base
+    (loads_at trial c.in-Ok.regs base c.loads_nothing.result false (sym c.in-Ok.ensures.shown) c.loads_nothing.ensures
+    c.if-not-loads_nothing.true)
 
-pub returns : goal.returns
-returns c = λ now stands.
+pub returns-in-Waits : goal.returns-in-Waits
+returns-in-Waits c = λ now stands.
     let trial = c.args.trial.now in
-    let machine = c.args.self.now.machine in
-    let core = c.args.core in
-    let seen : List ℕ = seen_by now.state core in
-    let setting : Setting = trial_setting trial in
-    let base : Regs = (view_at machine core).base in
-    let loads : are_none (setting.load_of base) ≡ true =
-    subst (λ (regs : Regs). are_none (setting.load_of regs) ≡ true) c.in-Ok.ensures.shown
-    (sym (c.loads_nothing.ensures trial.limits.read_lines trial.limits.write_lines trial.limits.stores)
-    ∙ c.if-not-loads_nothing.false) in
-    let closed = closed_shown setting seen (now.state.cores core) (now.doomed core) (view_at machine core)
-    (shows machine setting now c.requires.place.rules stands core
-    (let count = c.requires.place.count in let is_core = c.requires.core in omega arith))
-    c.requires.running in
-    let told : IsReachTold setting seen (now.state.cores core) (now.doomed core) c.in-Ok-preview.preview.reach =
-    subst (λ (s : Setting). IsReachTold s seen (now.state.cores core) (now.doomed core) c.in-Ok-preview.preview.reach)
-    c.requires.place.rules
-    (c.in-Ok-preview.ensures.reach now.state now.doomed stands) in
-    let stores : loaded_addresses c.in-Ok-preview.preview.reach.store
-    ≡ addresses_stored_at setting seen (Closed base)
-    (owed_outcome setting seen (Closed base) None) =
-    told.stores
-    ∙ (ap (λ (x : Core). addresses_stored_at setting seen x
-    (owed_outcome setting seen x (now.doomed core))) closed.0
-    ∙ ap (λ (d : Option ℕ). addresses_stored_at setting seen (Closed base)
-    (owed_outcome setting seen (Closed base) d)) closed.1) in
-    c.is_absent.ensures
-    ∙ (ap are_none stores
-    ∙ sym (ap (λ t. t && are_none (addresses_stored_at setting seen (Closed base)
-    (owed_outcome setting seen (Closed base) None))) loads))
+    let place = c.args.self.now in
+    let core : ℕ = c.args.core in
+    let base : Regs = (view_at place.machine core).base in
+    let told = told_ahead trial place core (buffering.Waits c.in-Waits._wait) c.requires.place c.requires.core
+    c.requires.running
+    (subst (λ (b : Buffering). TellsAhead place.machine core b) c.in-Waits.is c.in-Ok-ahead.ensures.told) now stands in
+    waits_touches (trial_setting trial) now.state.memory (now.state.pending core) base
+    (loads_at trial c.in-Ok.regs base c.loads_nothing.result true (sym c.in-Ok.ensures.shown) c.loads_nothing.ensures
+    c.if-not-loads_nothing.false) told.waits
+
+pub returns-in-Pends : goal.returns-in-Pends
+returns-in-Pends c = λ now stands.
+    let trial = c.args.trial.now in
+    let place = c.args.self.now in
+    let core : ℕ = c.args.core in
+    let base : Regs = (view_at place.machine core).base in
+    let told = told_ahead trial place core buffering.Pends c.requires.place c.requires.core c.requires.running
+    (subst (λ (b : Buffering). TellsAhead place.machine core b) c.in-Pends.is c.in-Ok-ahead.ensures.told) now stands in
+    pends_touches (trial_setting trial) now.state.memory (now.state.pending core) base
+    (loads_at trial c.in-Ok.regs base c.loads_nothing.result true (sym c.in-Ok.ensures.shown) c.loads_nothing.ensures
+    c.if-not-loads_nothing.false) told.0 told.1
+
+pub returns-in-Goes : goal.returns-in-Goes
+returns-in-Goes c = λ now stands.
+    let trial = c.args.trial.now in
+    let place = c.args.self.now in
+    let core : ℕ = c.args.core in
+    let base : Regs = (view_at place.machine core).base in
+    let told = told_ahead trial place core buffering.Goes c.requires.place c.requires.core c.requires.running
+    (subst (λ (b : Buffering). TellsAhead place.machine core b) c.in-Goes.is c.in-Ok-ahead.ensures.told) now stands in
+    c.stores_nothing.ensures now stands
+    ∙ goes_touches (trial_setting trial) now.state.memory (now.state.pending core) base
+    (loads_at trial c.in-Ok.regs base c.loads_nothing.result true (sym c.in-Ok.ensures.shown) c.loads_nothing.ensures
+    c.if-not-loads_nothing.false) told.0 told.1

@@ -1,13 +1,17 @@
-use Rattle.std.proofs.Common.{List, ◌∙◌, refl, sym, ap, subst, arith}
+use Rattle.std.proofs.Common.{ℕ, ◌<◌, List, length, ◌∙◌, refl, sym, ap, subst, arith}
+use Rattle.std.proofs.lemmas.Bool.{false≢true}
+use Rattle.tm_core.specs.Theorem.{machine_setting}
+use Rattle.tm_model.specs.declared.outcome.Pick.{Pick}
 use Rattle.tm_outcomes.specs.Nodes.{AreNodesOf, IsTree, schedule_at}
 use Rattle.tm_outcomes.specs.Places.{IsAt}
 use Rattle.tm_outcomes.specs.Written.{IsBenchOf}
 use Rattle.tm_outcomes.specs.declared.nodes.Node.{Node}
+use Rattle.tm_outcomes.specs.declared.place.Place.{Place}
 use Rattle.tm_outcomes.proofs.Idling.{leads_back}
 use Rattle.tm_outcomes.proofs.Joined.{to_known}
 use Rattle.tm_outcomes.proofs.Kept.{kept_same}
 use Rattle.tm_outcomes.proofs.Leads.{known_at}
-use Rattle.tm_outcomes.proofs.Shown.{none_pending, stopped_closed}
+use Rattle.tm_outcomes.proofs.Shown.{none_pending, stopped_closed, undrained}
 use Rattle.tm_outcomes.proofs.searching.Searching.follow.Goals as goal
 
 pub come_to-requires-clause-bench : goal.come_to-requires-clause-bench
@@ -55,12 +59,21 @@ follow_here-requires-clause-here c = λ schedules tree.
 pub returns-then-not-has_pending-clause-known : goal.returns-then-not-has_pending-clause-known
 returns-then-not-has_pending-clause-known c =
     let trial = c.args.task.now.trial in
-    known_at trial c.args.self.now.nodes.items c.args.index c.args.pick.core c.come_to.new.self.start _
-    c.requires.is_pick.is_core
-    (λ schedules tree. c.in_ok-come_to.ensures.start schedules
-    (subst (λ (ns : List Node). IsTree trial ns schedules) (sym c.as_slice.ensures.value) tree))
+    let core : ℕ = c.args.pick.core in
+    let start : Place = c.come_to.new.self.start in
+    let at : (schedules : List (List Pick)) → IsTree trial c.args.self.now.nodes.items schedules →
+    IsAt trial start (schedule_at schedules c.args.index) =
+    λ schedules tree. c.in_ok-come_to.ensures.start schedules
+    (subst (λ (ns : List Node). IsTree trial ns schedules) (sym c.as_slice.ensures.value) tree) in
+    let count = (at c.requires.from.tree.0 c.requires.from.tree.1).count in
+    let is_core = c.requires.is_pick.is_core in
+    let below : core < length start.machine.views = omega arith in
+    known_at trial c.args.self.now.nodes.items c.args.index core start _ is_core at
     (sym (stopped_closed _ (sym c.has_stopped.ensures ∙ c.if-has_stopped.true)))
-    (sym c.if-not-has_pending.true ∙ c.has_pending.ensures)
+    (λ some. absurd (false≢true some))
+    (λ none now stands. undrained (machine_setting start.machine) now core
+    (sym (stands.same_pending core below)
+    ∙ none_pending _ (sym c.has_pending.ensures ∙ c.if-not-has_pending.true)))
 
 pub come_to-requires-clause-nodes : goal.come_to-requires-clause-nodes
 come_to-requires-clause-nodes c =

@@ -31,8 +31,8 @@ is_open-was_open-requires c =
     let is_core = c.requires.is_pick.is_core in
     omega arith
 
-pub has_pending-had_pending-requires : goal.has_pending-had_pending-requires
-has_pending-had_pending-requires c =
+pub drains_apart-drains_apart-requires : goal.drains_apart-drains_apart-requires
+drains_apart-drains_apart-requires c =
     let trial = c.args.task.now.trial in
     let schedules = c.requires.from.tree.0 in
     let at : IsAt trial c.args.bench.now.here (schedule_at schedules c.args.index) =
@@ -45,17 +45,20 @@ has_pending-had_pending-requires c =
 pub returns-in-Some-clause-known : goal.returns-in-Some-clause-known
 returns-in-Some-clause-known c =
     known_at c.args.task.now.trial c.args.self.now.nodes.items c.args.index c.args.pick.core c.args.bench.now.here _
-    c.requires.is_pick.is_core c.requires.here c.is_open-was_open.ensures c.has_pending-had_pending.ensures
+    c.requires.is_pick.is_core c.requires.here c.is_open-was_open.ensures c.drains_apart-drains_apart.ensures.pending
+    c.drains_apart-drains_apart.ensures.same
 
 pub returns-then-len-most-clause-known : goal.returns-then-len-most-clause-known
 returns-then-len-most-clause-known c =
     known_at c.args.task.now.trial c.args.self.now.nodes.items c.args.index c.args.pick.core c.args.bench.now.here _
-    c.requires.is_pick.is_core c.requires.here c.is_open-was_open.ensures c.has_pending-had_pending.ensures
+    c.requires.is_pick.is_core c.requires.here c.is_open-was_open.ensures c.drains_apart-drains_apart.ensures.pending
+    c.drains_apart-drains_apart.ensures.same
 
 pub returns-clause-known : goal.returns-clause-known
 returns-clause-known c =
     known_at c.args.task.now.trial c.args.self.now.nodes.items c.args.index c.args.pick.core c.args.bench.now.here _
-    c.requires.is_pick.is_core c.requires.here c.is_open-was_open.ensures c.has_pending-had_pending.ensures
+    c.requires.is_pick.is_core c.requires.here c.is_open-was_open.ensures c.drains_apart-drains_apart.ensures.pending
+    c.drains_apart-drains_apart.ensures.same
 
 pub advance-requires-clause-place : goal.advance-requires-clause-place
 advance-requires-clause-place c = c.requires.from.has_bench.bench.here.place

@@ -1,5 +1,6 @@
-use Rattle.std.proofs.Common.{◌≡◌, ◌≤◌, List, None, [], ◌∷◌, ◌++◌, ℕ, length, refl, sym, ap, ◌∙◌, subst, arith}
+use Rattle.std.proofs.Common.{◌≡◌, ◌≤◌, List, None, [], ◌∷◌, ◌++◌, ℕ, false, length, refl, sym, ap, ◌∙◌, subst, arith}
 use Rattle.std.specs.Prelude.{All}
+use Rattle.std.proofs.lemmas.Bool.{false≢true}
 use Rattle.std.proofs.lemmas.List.Elements.{All-nil}
 use Rattle.tm_outcomes.specs.Kept.{AreOlder, digest_at}
 use Rattle.tm_outcomes.specs.Nodes.{IsEnd, IsStep, IsTree}
@@ -31,7 +32,9 @@ returns-clause-done c = λ trial.
     let stops : c.add.new.self.found.stops.items ≡ [] =
     ap (λ (f : Findings). f.stops.items) found ∙ c.new-5.ensures.stops in
     let violations : c.add.new.self.found.violations.items ≡ [] =
-    ap (λ (f : Findings). f.violations.items) found ∙ c.new-5.ensures.violations in (
+    ap (λ (f : Findings). f.violations.items) found ∙ c.new-5.ensures.violations in
+    let waited : c.add.new.self.found.waited ≡ false =
+    ap (λ (f : Findings). f.waited) found ∙ c.new-5.ensures.waited in (
       [] ∷ [],
       record {
         tree = subst (λ (ns : List Node). IsTree trial ns ([] ∷ [])) (sym nodes) (first_tree trial node);
@@ -47,6 +50,7 @@ returns-clause-done c = λ trial.
               (record { told = All-nil (IsStop trial); once = λ i j d before below. absurd (omega arith) });
           violations = subst (λ (vs : List Violation). AreViolations trial vs) (sym violations)
               (record { told = All-nil (IsViolation trial); once = λ i j d before below. absurd (omega arith) });
+          waited = λ is. absurd (false≢true (sym waited ∙ is));
         };
         few = subst (λ (ns : List Node). length ns ≤ 1) (sym nodes) (omega arith);
       },
