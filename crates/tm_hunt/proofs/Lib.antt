@@ -9,3 +9,4 @@ pub mod Shortenings
 pub mod Costs
 pub mod Cycles
 pub mod Drained
+pub mod Loads

@@ -8,3 +8,4 @@ pub mod Deciding
 pub mod Shortening
 pub mod Cycle
 pub mod Chase
+pub mod Delays

@@ -4,7 +4,6 @@
 //! machines time and again asks [`are_same_at`] first, at the place where [`first_difference`] was the last time.
 
 ghost use Rattle.std.specs.Prelude.{◌≡◌, ◌≤◌, IsTrue, length};
-ghost use Rattle.tm_core.specs.Theorem.{pending_at};
 ghost use Rattle.tm_hunt.specs.Cycle.{AreAlike, AreCoresAlike, ArePendingAlike};
 
 use tm_core::Machine;
@@ -26,25 +25,7 @@ pub fn are_cores_alike(a: &Machine, b: &Machine) -> bool
         return false;
     }
     for core in 0..a.cores() {
-        if !a.is_core_alike(b, core) || !is_pending_alike(a, b, core) {
-            return false;
-        }
-    }
-    true
-}
-
-// Whether the same stores of a core are pending.
-fn is_pending_alike(a: &Machine, b: &Machine, core: u8) -> bool
-    ensures { IsTrue result → pending_at a.now core ≡ pending_at b.now core }
-{
-    let (Ok(one), Ok(other)) = (a.pending(core), b.pending(core)) else {
-        return false;
-    };
-    if one.len() != other.len() {
-        return false;
-    }
-    for index in 0..one.len() {
-        if one[index] != other[index] {
+        if !a.is_core_alike(b, core) || !a.is_pending_alike(b, core) {
             return false;
         }
     }

@@ -1,132 +1,97 @@
-//! Stores that reach memory late: how early a drain may come ([`early_place`]), and which loads a store is delayed
-//! past ([`find_delays`]).
+//! Which loads the stores of a failing run are late past: [`find_delays`].
 //!
-//! Both make the steps of a schedule once more on a machine, and look at how many stores of the step's core are pending
-//! before it and behind it. What they answer is tried (`shortening`) or told, and nothing is promised of it.
+//! The steps that decide are made once more on a machine, for one core after another. A step that leaves its store
+//! pending is kept, with how many stores are older and how many have drained before it. A step that loads a byte from
+//! memory is the one that each store kept is late past, where no more have drained since than were older, and then
+//! none is kept any longer. Which of them makes the run fail is not asked: `shortening` has let each drain come as
+//! early as it may.
 
-ghost use Rattle.std.specs.Prelude.{◌≡◌, [], IfErr, IfOk};
+ghost use Rattle.std.specs.Prelude.{◌≡◌, ◌∷◌, ◌≤◌, ◌+◌, [], All, IfErr, IfOk, IfSome, IsTrue, OnOk, length, true};
 ghost use Rattle.tm_core.specs.Theorem.{SameMachine};
 ghost use Rattle.tm_hunt.specs.Attempts.{IsRefusal};
-ghost use Rattle.tm_hunt.specs.Cycle.{IsMachineOf};
+ghost use Rattle.tm_hunt.specs.Cycle.{IsMachineOf, Makes};
+ghost use Rattle.tm_hunt.specs.Deciding.{deciding};
+ghost use Rattle.tm_hunt.specs.Delays.{AreTold, HasByteBeside, IsDelayed, IsGlance, IsLoading, IsMadeAt, IsStored};
+ghost use Rattle.tm_hunt.specs.Delays.{drains_of};
 
 use crate::attempt::HuntFault;
 use crate::failure::Failure;
+use crate::pending::{has_byte_beside, pending_count};
 use crate::trial::Trial;
 use crate::walker::{machine_of, makes};
 use std::alloc::{AllocError, Global};
 use tm_core::Machine;
 use tm_model::{Event, Pick};
 
-/// A store that its core loaded past: between the two a fence belongs where that is what fails. Steps are told by their
-/// indices in the schedule.
+/// The most that are told.
+const MOST: usize = 4;
+
+/// A store that its core loaded past: it was pending when the core loaded a byte from memory.
 #[derive(Clone, Copy, PartialEq, Eq, Debug)]
 pub struct Delayed {
-    /// The step that made it.
-    pub stored: usize,
-    /// The first step behind it that loaded from another address while it was pending.
-    pub loaded: usize,
+    /// The core of both.
+    pub core: u8,
+    /// The step that made the store, 0 for the first of the run.
+    pub stored: u64,
+    /// Where its instruction stands.
+    pub store_eip: u32,
+    /// The first step behind it that loaded a byte from memory.
+    pub loaded: u64,
+    /// Where its instruction stands.
+    pub load_eip: u32,
 }
 
-/// A store that is pending.
+/// What is kept of a step.
 #[derive(Clone, Copy)]
-struct Waiting {
-    core: u8,
-    address: u32,
-    stored: usize,
-    loaded: Option<usize>,
+pub struct Glance {
+    /// Where its instruction stands.
+    pub eip: u32,
+    /// How many stores of its core are older than the one that it leaves pending, if it leaves one.
+    pub older: Option<usize>,
+    /// Whether it loads a byte from memory.
+    pub loads: bool,
 }
 
-// How many stores of a core are pending.
-fn pending_count(machine: &Machine, core: u8) -> usize {
-    match machine.pending(core) {
-        Ok(stores) => stores.len(),
-        Err(_) => 0,
-    }
+/// A step of a core.
+#[derive(Clone, Copy)]
+pub struct Place {
+    /// The step, 0 for the first of the run.
+    pub step: usize,
+    /// Where its instruction stands.
+    pub eip: u32,
+    /// How many stores of its core have drained before it.
+    pub drained: usize,
 }
 
-// The address of the newest store of a core that is pending.
-fn newest_address(machine: &Machine, core: u8) -> Option<u32> {
-    let Ok(stores) = machine.pending(core) else {
-        return None;
-    };
-    let newest = stores.last()?;
-    Some(newest.addr)
+/// A step of a core that leaves its store pending.
+#[derive(Clone, Copy)]
+pub struct Stored {
+    /// The step.
+    pub place: Place,
+    /// How many stores of the core are older.
+    pub older: usize,
 }
 
-// The address from which the step of a pick loads.
-fn load_address(machine: &Machine, pick: Pick) -> Option<u32> {
-    if pick.event.is_some() {
-        return None;
-    }
-    let Ok(preview) = machine.preview(pick.core) else {
-        return None;
-    };
-    let load = preview.reach.load?;
-    Some(load.addr)
+/// The steps of a schedule, of which those of one core are looked at.
+#[derive(Clone, Copy)]
+pub struct Course<'a> {
+    /// What is tried.
+    pub trial: Trial<'a>,
+    /// The schedule.
+    pub picks: &'a [Pick],
+    /// The core.
+    pub core: u8,
 }
 
-// ---- how early a drain may come
-
-/// Where the drain at an index may come at the earliest: behind the step that made its store, and behind the drain
-/// before it of the same core; nothing where it stands there.
-#[tactic(auto, using(crate::proofs::Cycles::of_same))]
-pub fn early_place(
-    trial: &Trial<'_>,
-    machine: &mut Machine,
-    picks: &[Pick],
-    at: usize,
-) -> Option<usize>
-    requires { IsMachineOf trial.now machine.old }
-    ensures { IsMachineOf trial.now machine.new }
-{
-    let core = picks.get(at)?.core;
-    let (drains, last) = drains_before(picks, core, at);
-    machine.reopen(trial.program);
-    let place = behind_store(machine, picks, core, drains)?.max(last);
-    if place < at { Some(place) } else { None }
-}
-
-// How many drains of a core stand before an index, and the index behind the last of them, 0 where there is none.
-fn drains_before(picks: &[Pick], core: u8, end: usize) -> (usize, usize) {
-    let mut count = 0usize;
-    let mut last = 0;
-    for index in 0..end.min(picks.len()) {
-        if picks[index].core == core && picks[index].event == Some(Event::Drain) {
-            count = count.saturating_add(1);
-            last = index.saturating_add(1);
-        }
-    }
-    (count, last)
-}
-
-// The index behind the step that makes the store of a core before which it makes so many.
-#[tactic(auto, using(crate::proofs::Cycles::sames))]
-fn behind_store(machine: &mut Machine, picks: &[Pick], core: u8, before: usize) -> Option<usize>
-    ensures { SameMachine machine.old machine.new }
-{
-    let mut made = 0usize;
-    'steps: for index in 0..picks.len() {
-        let pending = pending_count(machine, core);
-        let _as_told = makes(machine, picks[index]);
-        if pending_count(machine, core) > pending {
-            if made == before {
-                return Some(index.saturating_add(1));
-            }
-            made = made.saturating_add(1);
-        }
-    }
-    None
-}
-
-// ---- which loads a store is delayed past
-
-/// The stores that were still pending when their core loaded from another address, of the steps that decide, in the
-/// order in which they reached memory, and behind them those that did not. With room for no store there are none.
+/// The loads that stores of a failing run are late past, of the steps that decide: of each store the first one, of one
+/// core after another, and no more than four. With room for no store there are none.
 pub fn find_delays(
     alloc: Global,
     trial: &Trial<'_>,
     failure: &Failure,
 ) -> Result<Vec<Delayed>, HuntFault>
+    ensures delayed { IfOk result (λ found. All (IsDelayed trial.now (deciding failure.now)) found.items) }
+    ensures few { IfOk result (λ found. length found.items ≤ 4) }
     ensures none { trial.now.limits.stores ≡ 0 → IfOk result (λ found. found.items ≡ []) }
     ensures err { IfErr result (IsRefusal trial.now) }
 {
@@ -134,80 +99,220 @@ pub fn find_delays(
         return Ok(Vec::new(alloc));
     }
     let mut machine = machine_of(alloc, trial)?;
-    let found = delays_of(alloc, &mut machine, failure.deciding())?;
+    let found = find_on(alloc, trial, &mut machine, failure.deciding())?;
     Ok(found)
 }
 
-// Those of steps that a machine makes.
-fn delays_of(
+// Those of the steps of a list.
+fn find_on(
     alloc: Global,
+    trial: &Trial<'_>,
     machine: &mut Machine,
     picks: &[Pick],
-) -> Result<Vec<Delayed>, AllocError> {
+) -> Result<Vec<Delayed>, AllocError>
+    requires { IsMachineOf trial.now machine.old }
+    ensures { IfOk result (λ found. AreTold trial.now picks.now found.items) }
+{
     let mut found = Vec::new(alloc);
-    let mut waiting = Vec::new(alloc);
-    for (index, pick) in picks.iter().enumerate() {
-        let load = load_address(machine, *pick);
-        let pending = pending_count(machine, pick.core);
-        let _as_told = makes(machine, *pick);
-        let left = pending_count(machine, pick.core);
-        if left < pending {
-            if let Some(loaded) = drained(&mut waiting, pick.core) {
-                found.push(loaded)?;
-            }
-        } else if let Some(address) = load {
-            loads(&mut waiting, pick.core, address, index);
-        }
-        if left > pending {
-            let store = stored(machine, pick.core, index);
-            waiting.push(store)?;
-        }
-    }
-    for store in waiting.as_slice() {
-        if let Some(loaded) = store.delay() {
-            found.push(loaded)?;
-        }
+    'cores: for core in 0..trial.program.cores() {
+        let course = Course {
+            trial: *trial,
+            picks,
+            core,
+        };
+        course.find(alloc, machine, &mut found)?;
     }
     Ok(found)
 }
 
-impl Waiting {
-    // Past which load it is delayed, if past any.
-    fn delay(&self) -> Option<Delayed> {
-        let loaded = self.loaded?;
+impl Course<'_> {
+    // Tells those of its core behind those of others.
+    fn find(
+        self,
+        alloc: Global,
+        machine: &mut Machine,
+        found: &mut Vec<Delayed>,
+    ) -> Result<(), AllocError>
+        requires machine { IsMachineOf self.trial machine.old }
+        requires found { AreTold self.trial self.picks.now found.old.items }
+        ensures machine { IsMachineOf self.entry.trial machine.new }
+        ensures found { OnOk result (AreTold self.entry.trial self.entry.picks.now found.new.items) }
+    {
+        machine.reopen(self.trial.program);
+        let mut waiting = Vec::new(alloc);
+        let mut drained = 0;
+        'steps: for step in 0..self.picks.len() {
+            let pick = self.picks[step];
+            let Some(seen) = make(machine, pick) else {
+                return Ok(());
+            };
+            let place = Place {
+                step,
+                eip: seen.eip,
+                drained,
+            };
+            self.look(pick, seen, place, &mut waiting, found)?;
+            drained += self.drains(pick);
+        }
+        Ok(())
+    }
+
+    // Looks at a step that was made.
+    fn look(
+        self,
+        pick: Pick,
+        seen: Glance,
+        place: Place,
+        waiting: &mut Vec<Stored>,
+        found: &mut Vec<Delayed>,
+    ) -> Result<(), AllocError>
+        requires made { IsMadeAt self pick seen place }
+        requires waiting { All (IsStored self) waiting.old.items }
+        requires found { AreTold self.trial self.picks.now found.old.items }
+        ensures waiting { OnOk result (All (IsStored self.entry) waiting.new.items) }
+        ensures found { OnOk result (AreTold self.entry.trial self.entry.picks.now found.new.items) }
+    {
+        if pick.core != self.core {
+            return Ok(());
+        }
+        self.pass(seen.loads, place, waiting, found)?;
+        match seen.older {
+            Some(older) => {
+                waiting.push(Stored { place, older })?;
+                Ok(())
+            }
+            None => Ok(()),
+        }
+    }
+
+    // Passes a step: where it loads from memory it is told of each store that waits, and none waits any longer.
+    fn pass(
+        self,
+        loads: bool,
+        place: Place,
+        waiting: &mut Vec<Stored>,
+        found: &mut Vec<Delayed>,
+    ) -> Result<(), AllocError>
+        requires load { loads ≡ true → IsLoading self place }
+        requires waiting { All (IsStored self) waiting.old.items }
+        requires found { AreTold self.trial self.picks.now found.old.items }
+        ensures waiting { OnOk result (All (IsStored self.entry) waiting.new.items) }
+        ensures found { OnOk result (AreTold self.entry.trial self.entry.picks.now found.new.items) }
+    {
+        if !loads {
+            return Ok(());
+        }
+        self.tell_all(waiting.as_slice(), place, found)?;
+        waiting.clear();
+        Ok(())
+    }
+
+    // Tells of each of these stores that is late past this load.
+    fn tell_all(
+        self,
+        waiting: &[Stored],
+        load: Place,
+        found: &mut Vec<Delayed>,
+    ) -> Result<(), AllocError>
+        requires waiting { All (IsStored self) waiting.now }
+        requires load { IsLoading self load }
+        requires found { AreTold self.trial self.picks.now found.old.items }
+        ensures { OnOk result (AreTold self.entry.trial self.entry.picks.now found.new.items) }
+    {
+        for stored in waiting {
+            self.tell(*stored, load, found)?;
+        }
+        Ok(())
+    }
+
+    // Tells of a store, where it is late past this load, and there are not enough.
+    fn tell(self, stored: Stored, load: Place, found: &mut Vec<Delayed>) -> Result<(), AllocError>
+        requires stored { IsStored self stored }
+        requires load { IsLoading self load }
+        requires found { AreTold self.trial self.picks.now found.old.items }
+        ensures { OnOk result (AreTold self.entry.trial self.entry.picks.now found.new.items) }
+    {
+        if found.as_slice().len() >= MOST {
+            return Ok(());
+        }
+        match self.late(stored, load) {
+            Some(delayed) => {
+                found.push(delayed)?;
+                Ok(())
+            }
+            None => Ok(()),
+        }
+    }
+
+    // What is told of a store that is late past this load; nothing where it is not.
+    fn late(self, stored: Stored, load: Place) -> Option<Delayed>
+        requires stored { IsStored self stored }
+        requires load { IsLoading self load }
+        ensures { IfSome result (IsDelayed self.entry.trial self.entry.picks.now) }
+    {
+        let store = stored.place;
+        if store.step >= load.step || load.drained.saturating_sub(store.drained) > stored.older {
+            return None;
+        }
         Some(Delayed {
-            stored: self.stored,
-            loaded,
+            core: self.core,
+            stored: store.step as u64,
+            store_eip: store.eip,
+            loaded: load.step as u64,
+            load_eip: load.eip,
         })
     }
+
+    // How many stores of the core a step drains: one or none.
+    fn drains(self, pick: Pick) -> usize
+        ensures drained { result ≡ drains_of self.entry.core (pick ∷ []) }
+        ensures few { result ≤ 1 }
+    {
+        if pick.core == self.core && pick.event == Some(Event::Drain) {
+            1
+        } else {
+            0
+        }
+    }
 }
 
-// The newest store of a core, which this step made.
-fn stored(machine: &Machine, core: u8, index: usize) -> Waiting {
-    Waiting {
-        core,
-        address: newest_address(machine, core).unwrap_or(0),
-        stored: index,
-        loaded: None,
+// Makes a step, and says what is kept of it; nothing where it does not come to be as its pick says.
+fn make(machine: &mut Machine, pick: Pick) -> Option<Glance>
+    ensures same { SameMachine machine.old machine.new }
+    ensures made { IfSome result (λ seen. Makes machine.old machine.new (pick ∷ [])) }
+    ensures seen { IfSome result (IsGlance machine.old machine.new pick) }
+{
+    let Ok(preview) = machine.preview(pick.core) else {
+        return None;
+    };
+    let loads = has_byte_beside(machine, pick.core, preview.reach.load);
+    let before = pending_count(machine, pick.core);
+    if !makes(machine, pick) {
+        return None;
+    }
+    let behind = pending_count(machine, pick.core);
+    match pick.event {
+        None => Some(Glance {
+            eip: preview.eip,
+            older: older_of(before, behind),
+            loads,
+        }),
+        Some(_event) => Some(Glance {
+            eip: preview.eip,
+            older: None,
+            loads: false,
+        }),
     }
 }
 
-// Takes out the oldest store of a core that is waiting: past which load it was delayed, if past any.
-fn drained(waiting: &mut Vec<Waiting>, core: u8) -> Option<Delayed> {
-    for index in 0..waiting.as_slice().len() {
-        if waiting.as_slice()[index].core == core {
-            let store = waiting.remove(index);
-            return store.delay();
-        }
-    }
-    None
-}
-
-// The step at an index loads from this address: the stores of its core to another one that wait are delayed past it.
-fn loads(waiting: &mut [Waiting], core: u8, address: u32, index: usize) {
-    for store in waiting {
-        if store.core == core && store.address != address && store.loaded.is_none() {
-            store.loaded = Some(index);
-        }
+// How many stores are older than one that a step leaves pending, before and behind which so many are pending; nothing
+// where it leaves none.
+fn older_of(before: usize, behind: usize) -> Option<usize>
+    ensures { IfSome result (λ older. (before ≡ older) × (behind ≡ older + 1)) }
+{
+    if behind > before && behind - before == 1 {
+        Some(before)
+    } else {
+        None
     }
 }

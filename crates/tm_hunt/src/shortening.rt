@@ -1,7 +1,7 @@
 //! A shorter schedule that fails by the same check: [`shorten`].
 //!
 //! In this order the end is cut off, then events, bursts and steps; bursts are put side by side, and steps cut once
-//! more; and where stores may be pending each drain that is left comes as early as it may (`delays`): what is late
+//! more; and where stores may be pending each drain that is left comes as early as it may (`early`): what is late
 //! then has to be. Each is done by at most 4096 tries. A try (`cuts`) is the run of a front with what comes behind it,
 //! so that whatever is kept was made and fails. A run at the limit keeps its rounds: their loop is looked for by
 //! `cycle`.
@@ -22,7 +22,7 @@ use crate::cuts::{
     burst_end, front_of, has_no_new_drain, joined, last_event, moved_before, next_drain, without,
     without_event,
 };
-use crate::delays::early_place;
+use crate::early::early_place;
 use crate::failure::Failure;
 use crate::one_run::board_of;
 use crate::trial::Trial;

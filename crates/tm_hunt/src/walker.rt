@@ -4,11 +4,13 @@
 //! to be as its pick says, so that an event that aborted nothing ends it. Where to stand, and what is compared
 //! there, is said by `chase` and `cycle`.
 
-ghost use Rattle.std.specs.Prelude.{◌≡◌, ◌-◌, ◌∷◌, [], IfErr, IfOk, IsTrue, length};
-ghost use Rattle.tm_core.specs.Theorem.{SameMachine};
+ghost use Rattle.std.specs.Prelude.{◌≡◌, ◌-◌, ◌∷◌, [], IfErr, IfOk, IsTrue, None, length};
+ghost use Rattle.tm_core.specs.Theorem.{SameMachine, StandsFor};
 ghost use Rattle.tm_model.specs.Runs.{event_told};
+ghost use Rattle.tm_model.specs.State.{opening_state};
 ghost use Rattle.tm_hunt.specs.Attempts.{IsBoardRefusal};
 ghost use Rattle.tm_hunt.specs.Cycle.{IsMachineOf, Makes};
+ghost use Rattle.tm_hunt.specs.Delays.{GoesUnheld};
 
 use crate::trial::Trial;
 use std::alloc::Global;
@@ -19,6 +21,7 @@ use tm_model::{Event, Outcome, Pick};
 /// A machine of a trial's program, before its first step.
 pub fn machine_of(alloc: Global, trial: &Trial<'_>) -> Result<Machine, BoardFault>
     ensures ok { IfOk result (IsMachineOf trial.now) }
+    ensures opening { IfOk result (λ machine. StandsFor machine (opening_state trial.now.program.now) (λ _. None)) }
     ensures err { IfErr result (IsBoardRefusal trial.now) }
 {
     match Machine::new(alloc, trial.program, trial.limits) {
@@ -94,6 +97,7 @@ impl<'a> Walker<'a> {
 pub fn makes(machine: &mut Machine, pick: Pick) -> bool
     ensures same { SameMachine machine.old machine.new }
     ensures made { IsTrue result → Makes machine.old machine.new (pick ∷ []) }
+    ensures goes { IsTrue result → pick.event ≡ None → GoesUnheld machine.old pick.core }
 {
     match pick.event {
         None => makes_alone(machine, pick),
@@ -105,6 +109,7 @@ pub fn makes(machine: &mut Machine, pick: Pick) -> bool
 fn makes_alone(machine: &mut Machine, pick: Pick) -> bool
     ensures same { SameMachine machine.old machine.new }
     ensures made { IsTrue result → Makes machine.old machine.new (pick ∷ []) }
+    ensures goes { IsTrue result → pick.event ≡ None → GoesUnheld machine.old pick.core }
 {
     match machine.step(pick.core) {
         Ok(outcome) => is_told(outcome, pick.event),
