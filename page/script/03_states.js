@@ -8,10 +8,14 @@ function openingCore(registers, core) {
     registers: registers.slice(), state: (run.states || [])[core] || 'run',
     base: null, begun: 0, doom: null, lost: null,
     reads: new Map(), writes: new Map(), loads: new Set(), stored: new Map(),
+    pending: (run.pending || {})[core] || [],
   };
   const open = (run.open || {})[core];
   return open ? openedBefore(made, open) : made;
 }
+
+// Whether a store of some core is pending anywhere on this page.
+const isBuffered = Boolean(run.pending) || run.steps.some(([, , , more]) => more && more.s);
 
 // A transaction that was begun before the first step of this page.
 function openedBefore(core, open) {
@@ -96,6 +100,8 @@ function apply(state, step) {
   if (kind === 'i') eachPair(more.l, (address, count) => noteLoad(core, address, count));
   eachPair(more.t, (address, digits) => bytesOf(digits).forEach((byte, i) => core.stored.set(address + i, byte)));
   eachPair(more.m, (address, digits) => store(state, address, digits));
+  if (kind === 'd') core.pending = core.pending.slice(1);
+  if (more.s) core.pending = [...core.pending, more.s];
   if (kind === 'c') {
     core.base = null;
     close(core);
@@ -103,8 +109,17 @@ function apply(state, step) {
   for (const [victim, line, isWrite] of more.d || []) doom(state.cores[victim], step, number, line, isWrite);
 }
 
-const byteAt = (state, address, core) => core && core.stored.has(address)
-  ? core.stored.get(address) : (state.memory.get(address >>> 6) || zeroLine)[address & 63];
+// The newest store of a core that is pending at an address, or nothing.
+const pendingAt = (core, address) => (core.pending || []).findLast(
+  ([first, count]) => address >= first && address < first + count);
+
+// A byte of memory, or as a core sees it: its private bytes lie over its pending stores, and these over memory.
+function byteAt(state, address, core) {
+  if (core && core.stored.has(address)) return core.stored.get(address);
+  const store = core && pendingAt(core, address);
+  if (store) return store[2] >>> 8 * (address - store[0]) & 255;
+  return (state.memory.get(address >>> 6) || zeroLine)[address & 63];
+}
 
 // A little-endian number in memory, or as a core sees it.
 function wordAt(state, address, core, count = 4) {
@@ -113,4 +128,7 @@ function wordAt(state, address, core, count = 4) {
   return value;
 }
 const offsets = [0, 1, 2, 3];
-const hasStored = (core, address) => offsets.some(i => core.stored.has(address + i));
+const hasPrivate = (core, address) => offsets.some(i => core.stored.has(address + i));
+// Whether a core alone sees this of a word.
+const hasStored = (core, address) =>
+  hasPrivate(core, address) || offsets.some(i => pendingAt(core, address + i));

@@ -46,11 +46,11 @@ function flowOf(core, step, text) {
 
 // What a step loaded, stored and changed.
 function actions(step) {
-  const [core, kind, , more = {}] = run.steps[step - 1], did = [];
-  const sees = kind === 'i' ? view.before.cores[core] : null;
+  const [core, kind, , more = {}] = run.steps[step - 1], did = [], sees = view.before.cores[core];
   eachPair(more.l, (address, count) =>
     did.push(`loads ${spot(address)} = ${numberText(wordAt(view.before, address, sees, count))}`));
   eachPair(more.t || more.m, (address, digits) => did.push(`stores ${storedText(digits)} to ${spot(address)}`));
+  if (more.s) did.push(`stores ${numberText(more.s[2])} to ${spot(more.s[0])}`);
   if (kind !== 'p' && kind !== 'i') return did.join(', ');
   const text = printed(addresses[step]);
   return [...did, ...registerChanges(core, text), ...flowOf(core, step, text)].join(', ');
@@ -100,11 +100,17 @@ function abortWords(core, step) {
 
 function plainWords(core, step) {
   const did = actions(step), half = view.before.cores[core].state === 'mid' ? ' second half of ' : ' ';
-  return [half, code(step), did ? `: ${did}.` : '.'];
+  const pends = moreOf(step).s ? ' (the store is pending: no other core sees it yet)' : '';
+  return [half, code(step), did ? `: ${did}${pends}.` : '.'];
+}
+
+function drainWords(core) {
+  const [address, , value] = view.before.cores[core].pending[0];
+  return [' drains: its oldest pending store reaches memory, ', `${numberText(value)} to ${spot(address)}.`];
 }
 
 const wordsOf = {
-  b: beginWords, i: insideWords, c: commitWords, a: abortWords, e: abortWords, p: plainWords,
+  b: beginWords, i: insideWords, c: commitWords, a: abortWords, e: abortWords, p: plainWords, d: drainWords,
   l: (core, step) => [' first half of ', code(step), `: ${actions(step)}. Another core may step before it stores.`],
   s: (core, step) => [' stops: ', code(step), `, ${stopText(view.state.cores[core])}.`],
   z: () => [' has stopped; nothing happens.'],

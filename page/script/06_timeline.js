@@ -75,7 +75,8 @@ const beginnings = { p: '', l: 'first half: ', i: 'inside: ', b: 'begins: ', c: 
 
 function cellTitle(step) {
   const [core, kind] = run.steps[step - 1];
-  const did = isAbort(kind) ? 'aborts' : kind === 'z' ? 'has stopped' : beginnings[kind] + written(addresses[step]);
+  const alone = { a: 'aborts', e: 'aborts', z: 'has stopped', d: 'its oldest pending store reaches memory' }[kind];
+  const did = alone || beginnings[kind] + written(addresses[step]);
   return `step ${numberOf(step)}: core ${core}, ${did}${reasonOf(step) ? ': ' + reasonOf(step) : ''}`;
 }
 
@@ -105,6 +106,7 @@ function cellLabel(step) {
   if (kind === 'a') return isLong() ? '\u2717 abort' : width >= 11 ? '\u2717' : '';
   if (kind === 'c') return width >= 66 ? '\u2713 commit' : width >= 11 ? '\u2713' : '';
   if (kind === 's') return stopLabel(step);
+  if (kind === 'd') return isLong() ? '\u2193 drain' : width >= 11 ? '\u2193' : '';
   if (isLong() && kind !== 'z') return fitting(written(addresses[step]), width);
   return kind === 'b' && width >= 15 ? '(' : '';
 }

@@ -110,7 +110,7 @@ function showProgram() {
   if (view.step) {
     const [number, kind] = run.steps[view.step - 1], colour = colourOf(number);
     const next = addClass(wanted, view.state.cores[number].registers[EIP], 'at ' + colour);
-    const did = isAbort(kind) ? null : addClass(wanted, addresses[view.step], 'did ' + colour);
+    const did = isAbort(kind) || kind === 'd' ? null : addClass(wanted, addresses[view.step], 'did ' + colour);
     target = did || next || target;
   }
   for (const found of marked.keys()) if (!wanted.has(found)) showRow(found, nothing);

@@ -1,4 +1,4 @@
-// The cores: state, registers and what an abort puts back, sets and private stores.
+// The cores: state, registers and what an abort puts back, pending stores, sets and private stores.
 const isFew = coreCount <= 4;
 const shortHex = value => hex(value).replace(/^0+(?=.)/, '');
 
@@ -108,6 +108,15 @@ function nextLine(core) {
   return element('p', 'next', element('small', '', 'next: '), written(at), element('small', '', '  ' + nameNear(at)));
 }
 
+// The stores that are pending, the oldest first, as the state lines of `run` have them.
+function pendingLine([address, count, value]) {
+  const line = element('p', 'pending', `pending ${hex(address)} ${hex(value, 2 * count)}`);
+  return titled(line, `${numberText(value)} to ${spot(address)}: no other core sees it yet`);
+}
+
+const pendingLines = core =>
+  core.pending.map((store, index) => [[index, isHexShown, ...store].join(), () => pendingLine(store)]);
+
 const setText = set => [...set.keys()].sort((a, b) => a - b).map(line => line.toString(16)).join(' ') || '-';
 
 // The cards, each with its boxes: they stay, and what they hold changes.
@@ -115,9 +124,9 @@ const cards = [];
 
 function coreCard(number) {
   const state = element('span', 'state'), next = element('div'), registers = element('dl', 'registers');
-  const sets = element('div'), body = element('div', 'body', registers, sets);
-  const card = element('article', '', element('h3', '', badge(number), 'core ' + number, state), next, body);
-  return { card, state, next, registers, sets };
+  const pending = element('div'), sets = element('div'), body = element('div', 'body', registers, sets);
+  const head = element('h3', '', badge(number), 'core ' + number, state);
+  return { card: element('article', '', head, next, pending, body), state, next, pending, registers, sets };
 }
 
 function showRegisters(box, core, old) {
@@ -129,10 +138,11 @@ function showRegisters(box, core, old) {
 
 function showCore(core, number) {
   const didStep = view.step && run.steps[view.step - 1][0] === number, old = view.before.cores[number];
-  const { card, state, next, registers, sets } = cards[number];
+  const { card, state, next, pending, registers, sets } = cards[number];
   setClass(card, `card core ${colourOf(number)} ${didStep ? 'did' : ''}`);
   refill(state, [[[core.state, core.begun, core.doom && core.doom.step].join(), () => statePill(core)]]);
   refill(next, [[[core.state, core.registers[EIP]].join(), () => nextLine(core)]]);
+  refill(pending, pendingLines(core));
   showRegisters(registers, core, old);
   refill(sets, isFew || isOpen(core) || isDoomed(core) ? [[setKey(core), () => setList(core)]] : []);
   const reads = setText(core.reads), writes = setText(core.writes);

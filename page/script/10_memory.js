@@ -43,7 +43,7 @@ function lineUses(more) {
       }
     }
   });
-  for (const list of [more.l, more.t, more.m]) {
+  for (const list of [more.l, more.t, more.m, more.s && more.s.slice(0, 2)]) {
     eachPair(list, address => {
       if (!uses.has(address >>> 6) && !isInCode(address)) uses.set(address >>> 6, new Map());
     });
@@ -90,15 +90,16 @@ function wordAsSeen(address, writtenWords) {
     const parts = partsShown(core);
     if (!parts) return;
     if (offsets.some(i => parts.loads.has(address + i))) readers.push(number);
-    if (hasStored(parts, address)) own.push([number, wordAt(view.state, address, parts)]);
+    if (!hasStored(parts, address)) return;
+    own.push([number, wordAt(view.state, address, parts), hasPrivate(parts, address) ? 'private to' : 'pending of']);
   });
   return { address, value, isChanged, readers, own };
 }
 
-function privateWord([core, value]) {
+function privateWord([core, value, whose]) {
   const seen = element('span', `private ${colourOf(core)}`, hex(value));
   seen.dataset.core = core;
-  return titled(seen, `private to core ${core}`);
+  return titled(seen, `${whose} core ${core}`);
 }
 
 function wordCell({ address, value, isChanged, readers, own }) {
@@ -140,7 +141,7 @@ function showLine(box, line, cores, hits, writtenWords) {
 
 const mostLines = 10;
 const legendOfLines = 'A stripe below a word: loaded by the core of that colour. A filled value: stored, private until '
-  + 'XEND. R, W: in the read set, in the write set.';
+  + `XEND${isBuffered ? ', or pending' : ''}. R, W: in the read set, in the write set.`;
 
 function showLines() {
   const more = view.step ? moreOf(view.step) : {}, uses = lineUses(more), writtenWords = wordsWritten(more.m);

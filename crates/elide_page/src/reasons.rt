@@ -33,7 +33,14 @@ pub fn write_reasons<O: Out + Drop>(job: &Job<'_>, out: O) -> Result<O, Refusal>
 {
     let subject = &job.subject;
     let loaded = subject.loaded;
-    let teller = Teller::new(&loaded.setup.program, subject.path, loaded.places, true);
+    let teller = Teller::new(
+        job.stretch.alloc,
+        &loaded.setup.program,
+        loaded.setup.limits,
+        subject.path,
+        loaded.places,
+        true,
+    )?;
     write_steps(job.stretch, teller, out)
 }
 

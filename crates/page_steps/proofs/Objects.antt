@@ -1,10 +1,10 @@
 -- The object of a step is what is printed of its members' values, and what is found in it are they.
-use Rattle.std.proofs.Common.{◌≡◌, ◌∙◌, ℕ, ◌+◌, ◌≤◌, max, Bool, true, false, cond, List, [], ◌∷◌, ◌++◌, Option, Some}
-use Rattle.std.proofs.Common.{None, ap, append_assoc, arith, codes, refl, subst, sym}
+use Rattle.std.proofs.Common.{◌≡◌, ◌∙◌, ℕ, ◌≤◌, Bool, true, false, List, [], ◌∷◌, ◌++◌, Some}
+use Rattle.std.proofs.Common.{None, ap, append_assoc, arith, refl, sym}
 use Rattle.json.specs.Token.{Token}
-use Rattle.json.specs.Json.{Items, Json, Members, item, member, no_items, no_members, object}
+use Rattle.json.specs.Json.{Json, Members, member, no_members}
 use Rattle.json.specs.Print.{print_from, quoted}
-use Rattle.json.specs.Tree.{HasNumbers, ItemsHaveNumbers, MembersHaveNumbers, items_depth, items_tokens, json_tokens}
+use Rattle.json.specs.Tree.{ItemsHaveNumbers, MembersHaveNumbers, items_depth, items_tokens, json_tokens}
 use Rattle.json.specs.Tree.{members_depth, members_tokens}
 use Rattle.page_steps.specs.Members.{members_text}
 use Rattle.page_steps.proofs.Printing.{AreOffers, IsPrint, Offers, behind, members_from, object_item}

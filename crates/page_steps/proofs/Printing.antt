@@ -1,17 +1,16 @@
 -- Texts that are what the library's writer of JSON prints of a value, so that they are read back as that value.
-use Rattle.std.proofs.Common.{◌≡◌, ◌∙◌, ℕ, ◌+◌, ◌<◌, ◌≤◌, ◌^◌, max, Bool, true, false, cond, List, [], ◌∷◌, ◌++◌}
+use Rattle.std.proofs.Common.{◌≡◌, ◌∙◌, ℕ, ◌+◌, ◌<◌, ◌≤◌, ◌^◌, Bool, true, false, cond, List, [], ◌∷◌, ◌++◌}
 use Rattle.std.proofs.Common.{Option, Some, None, ap, append_assoc, append-nil, arith, decimal, refl, subst, sym}
 use Rattle.std.specs.List.{flat_map, join_with_byte}
 use Rattle.std.specs.Str.{bytes_eq}
 use Rattle.json.specs.Token.{Token}
-use Rattle.json.specs.Json.{Items, Json, Members, array, document, item, max_depth, member, no_items, no_members}
+use Rattle.json.specs.Json.{Items, Json, Members, array, item, member, no_items, no_members}
 use Rattle.json.specs.Json.{number, object, string}
-use Rattle.json.specs.Print.{IsNumber, escape, print, print_from, quoted}
-use Rattle.json.specs.Tree.{HasNumbers, ItemsHaveNumbers, MembersHaveNumbers, depth, items_depth, items_tokens}
-use Rattle.json.specs.Tree.{json_tokens, members_depth, members_tokens}
+use Rattle.json.specs.Print.{escape, print_from, quoted}
+use Rattle.json.specs.Tree.{HasNumbers, ItemsHaveNumbers, depth, items_depth, items_tokens}
+use Rattle.json.specs.Tree.{json_tokens}
 use Rattle.json.specs.Find.{get_member, later_or}
 use Rattle.json.proofs.Printed.Decimals.{IsNumber-decimal}
-use Rattle.json.proofs.Printed.Trees.{document-print}
 
 -- a text behind a comma, where something stands before it
 abbrev pub behind : Bool → List ℕ → List ℕ

@@ -1,34 +1,34 @@
 -- The line of a step is JSON, and what a reader finds in it is the step's delta.
-use Rattle.std.proofs.Common.{◌≡◌, ◌∙◌, ℕ, zero, suc, ◌+◌, ◌<◌, ◌≤◌, ◌^◌, Bool, true, false, cond, List, [], ◌∷◌, ◌++◌}
+use Rattle.std.proofs.Common.{◌≡◌, ◌∙◌, ℕ, ◌+◌, ◌≤◌, Bool, true, false, List, [], ◌∷◌, ◌++◌}
 use Rattle.std.proofs.Common.{Option, Some, None, ap, append_assoc, append-nil, arith, codes, decimal, length, map}
 use Rattle.std.proofs.Common.{refl, subst, sym}
 use Rattle.std.proofs.lemmas.List.Elements.{recursion_from_All}
 use Rattle.std.specs.Cmp.Lexicographic.{pointwise}
 use Rattle.std.specs.List.{AllByRecursion, flat_map, join_with_byte}
 use Rattle.std.specs.Option.{option_and_then, option_map}
-use Rattle.std.specs.Prelude.{All, IfSome, if◌then◌else◌, nat_eq}
+use Rattle.std.specs.Prelude.{IfSome, if◌then◌else◌, nat_eq}
 use Rattle.json.specs.Find.{as_str, get, get_item, get_member}
 use Rattle.json.specs.Json.{Items, Json, Members, array, document, item, member, no_members, number, string}
 use Rattle.json.specs.Print.{escape, escape_byte, print, print_from, quoted}
-use Rattle.json.specs.Tree.{HasNumbers, depth, items_depth, items_tokens, json_tokens}
+use Rattle.json.specs.Tree.{items_tokens, json_tokens}
 use Rattle.json.proofs.Printed.Decimals.{IsNumber-decimal}
 use Rattle.json.proofs.Printed.Trees.{document-print}
 use Rattle.tm_hist.specs.Lines.{interference_word, state_word}
 use Rattle.page_steps.specs.Members.{access_member, bytes_of_width, event_member, hits_from, hits_member, kind_number}
-use Rattle.page_steps.specs.Members.{load_made, member_text, members_of, members_text, named, some_then, state_member}
-use Rattle.page_steps.specs.Members.{store_name}
+use Rattle.page_steps.specs.Members.{load_made, member_text, members_of, members_text, named, pending_member}
+use Rattle.page_steps.specs.Members.{some_then, state_member, store_name}
 use Rattle.page_steps.specs.Numbers.{numbers_text}
 use Rattle.page_steps.specs.Reading.{HasDepth, IsInRange, IsNumber, ReadsAs, access_numbers, event_word, hit_numbers}
 use Rattle.page_steps.specs.Reading.{is_inside, list_of, list_or_none, member_of, memory_bytes, new_word, number_of}
-use Rattle.page_steps.specs.Reading.{numbers_of, private_bytes, stored_of}
+use Rattle.page_steps.specs.Reading.{pending_numbers, private_bytes, stored_of}
 use Rattle.page_steps.specs.Registers.{changed_numbers}
 use Rattle.page_steps.specs.Steps.{step_text}
 use Rattle.page_steps.specs.Stored.{stored_text}
 use Rattle.page_steps.specs.Types.{Aborted, AbortedBy, Access, B, Begun, Committed, CoreState, D, Drained, Hit, Idle}
 use Rattle.page_steps.specs.Types.{Inside, Kind, Loaded, Outcome, PageDelta, Plain, Read, Stopped, StoredByte, Width}
-use Rattle.page_steps.specs.Types.{Write}
+use Rattle.page_steps.specs.Types.{Store, Write}
 use Rattle.page_steps.specs.Words.{letter_of}
-use Rattle.page_steps.proofs.Escaping.{Stays, event_stays, letter_stays, state_stays}
+use Rattle.page_steps.proofs.Escaping.{event_stays, letter_stays, state_stays}
 use Rattle.page_steps.proofs.Objects.{object_numbers, object_prints, object_shallow}
 use Rattle.page_steps.proofs.Printing.{AreOffers, IsOffer, IsPrint, Offers, found, found_in, members_from, object_item}
 use Rattle.page_steps.proofs.Printing.{word_prints}
@@ -53,6 +53,7 @@ offers_of delta before =
     ∷ (codes "l", list_offer numbers_value (access_numbers (load_made delta.outcome delta.load)))
     ∷ (codes "t", list_offer runs_value (private_bytes delta.outcome delta.stored.items))
     ∷ (codes "m", list_offer runs_value (memory_bytes delta.outcome delta.stored.items))
+    ∷ (codes "s", list_offer numbers_value (pending_numbers delta.pending))
     ∷ (codes "d", list_offer lists_value (hit_numbers 0 delta.hits))
     ∷ (codes "e", word_offer (event_word delta.outcome))
     ∷ []
@@ -66,6 +67,7 @@ texts_of delta before =
     ∷ access_member (load_made delta.outcome delta.load)
     ∷ named (codes "\"t\":") stored_text (private_bytes delta.outcome delta.stored.items)
     ∷ named (codes "\"m\":") stored_text (memory_bytes delta.outcome delta.stored.items)
+    ∷ pending_member delta.pending
     ∷ hits_member delta.hits
     ∷ event_member delta.outcome
     ∷ []
@@ -98,7 +100,7 @@ texts_are delta before =
     ap
     (λ t. member_text false q ++ (member_text behind_q r ++ (member_text behind_r w ++ (member_text behind_w l ++ t))))
     (stored_apart (some_then behind_w l) delta.outcome delta.stored.items
-    (hits_member delta.hits ∷ event_member delta.outcome ∷ []))
+    (pending_member delta.pending ∷ hits_member delta.hits ∷ event_member delta.outcome ∷ []))
 
 -- ---- each member's text is what is printed of its value
 
@@ -143,6 +145,14 @@ unfolding escape_byte
 access_offer None h = refl
 access_offer (Some access) h =
     let numbers = access_numbers (Some access) in
+    (numbers_text numbers, refl, deeper _ _ 1 2 (omega arith) (numbers_print numbers h))
+
+pending_offer : (store : Option Store) → AllByRecursion IsNumber (pending_numbers store) →
+    IsOffer (codes "s", list_offer numbers_value (pending_numbers store)) (pending_member store)
+unfolding escape_byte
+pending_offer None h = refl
+pending_offer (Some store) h =
+    let numbers = pending_numbers (Some store) in
     (numbers_text numbers, refl, deeper _ _ 1 2 (omega arith) (numbers_print numbers h))
 
 event_offer : (outcome : Outcome) → IsOffer (codes "e", word_offer (event_word outcome)) (event_member outcome)
@@ -227,6 +237,11 @@ access_fits : (load : Option Access) → IfSome load (λ access. IsNumber access
 access_fits None h = tt
 access_fits (Some access) h = (h, (width_fits access.width, tt))
 
+pending_fits : (store : Option Store) → IfSome store (λ store. IsNumber store.addr × IsNumber store.value)
+    → AllByRecursion IsNumber (pending_numbers store)
+pending_fits None h = tt
+pending_fits (Some store) h = (h.0, (width_fits store.width, (h.1, tt)))
+
 load_fits : (outcome : Outcome) (load : Option Access) → IfSome load (λ access. IsNumber access.addr) →
     IfSome (load_made outcome load) (λ access. IsNumber access.addr)
 load_fits Plain load h = h
@@ -256,6 +271,7 @@ record Fit (delta : PageDelta) : Type 0 where
   load : AllByRecursion IsNumber (access_numbers (load_made delta.outcome delta.load))
   private : AllByRecursion IsByteAt (private_bytes delta.outcome delta.stored.items)
   memory : AllByRecursion IsByteAt (memory_bytes delta.outcome delta.stored.items)
+  pending : AllByRecursion IsNumber (pending_numbers delta.pending)
   hits : AllByRecursion (AllByRecursion IsNumber) (hit_numbers 0 delta.hits)
 
 fit : (delta : PageDelta) → IsInRange delta → Fit delta
@@ -267,6 +283,7 @@ fit delta h =
       load = access_fits (load_made delta.outcome delta.load) (load_fits delta.outcome delta.load h.load);
       private = private_fits (is_inside delta.outcome) delta.stored.items stored;
       memory = memory_fits (is_inside delta.outcome) delta.stored.items stored;
+      pending = pending_fits delta.pending h.pending;
       hits = hits_fit 0 delta.hits (omega (arith, h.cores))
           (recursion_from_All (λ hit. IfSome hit (λ hit. IsNumber hit.line)) delta.hits h.hits);
     }
@@ -290,8 +307,8 @@ are_offers delta before h =
                 runs_offer (codes "m") (codes "\"m\":") (memory_bytes delta.outcome delta.stored.items)
                     (λ t. refl) fits.memory,
                 (
-                  hits_offer delta.hits fits.hits,
-                  (event_offer delta.outcome, tt),
+                  pending_offer delta.pending fits.pending,
+                  (hits_offer delta.hits fits.hits, (event_offer delta.outcome, tt)),
                 ),
               ),
             ),
@@ -354,42 +371,46 @@ in_object : (name : List ℕ) (members : Members)
 in_object name no_members = refl
 in_object name (member first value others) = refl
 
-abbrev eight : (q r w l t m d e : Option Json) → Offers
-eight q r w l t m d e =
-    (codes "q", q) ∷ (codes "r", r) ∷ (codes "w", w) ∷ (codes "l", l) ∷ (codes "t", t) ∷ (codes "m", m) ∷ (codes "d", d)
-    ∷ (codes "e", e) ∷ []
+abbrev nine : (q r w l t m s d e : Option Json) → Offers
+nine q r w l t m s d e =
+    (codes "q", q) ∷ (codes "r", r) ∷ (codes "w", w) ∷ (codes "l", l) ∷ (codes "t", t) ∷ (codes "m", m) ∷ (codes "s", s)
+    ∷ (codes "d", d) ∷ (codes "e", e) ∷ []
 
-found_q : (q r w l t m d e : Option Json) → found (codes "q") (eight q r w l t m d e) ≡ q
-found_q None r w l t m d e = refl
-found_q (Some value) r w l t m d e = refl
+found_q : (q r w l t m s d e : Option Json) → found (codes "q") (nine q r w l t m s d e) ≡ q
+found_q None r w l t m s d e = refl
+found_q (Some value) r w l t m s d e = refl
 
-found_r : (q r w l t m d e : Option Json) → found (codes "r") (eight q r w l t m d e) ≡ r
-found_r q None w l t m d e = refl
-found_r q (Some value) w l t m d e = refl
+found_r : (q r w l t m s d e : Option Json) → found (codes "r") (nine q r w l t m s d e) ≡ r
+found_r q None w l t m s d e = refl
+found_r q (Some value) w l t m s d e = refl
 
-found_w : (q r w l t m d e : Option Json) → found (codes "w") (eight q r w l t m d e) ≡ w
-found_w q r None l t m d e = refl
-found_w q r (Some value) l t m d e = refl
+found_w : (q r w l t m s d e : Option Json) → found (codes "w") (nine q r w l t m s d e) ≡ w
+found_w q r None l t m s d e = refl
+found_w q r (Some value) l t m s d e = refl
 
-found_l : (q r w l t m d e : Option Json) → found (codes "l") (eight q r w l t m d e) ≡ l
-found_l q r w None t m d e = refl
-found_l q r w (Some value) t m d e = refl
+found_l : (q r w l t m s d e : Option Json) → found (codes "l") (nine q r w l t m s d e) ≡ l
+found_l q r w None t m s d e = refl
+found_l q r w (Some value) t m s d e = refl
 
-found_t : (q r w l t m d e : Option Json) → found (codes "t") (eight q r w l t m d e) ≡ t
-found_t q r w l None m d e = refl
-found_t q r w l (Some value) m d e = refl
+found_t : (q r w l t m s d e : Option Json) → found (codes "t") (nine q r w l t m s d e) ≡ t
+found_t q r w l None m s d e = refl
+found_t q r w l (Some value) m s d e = refl
 
-found_m : (q r w l t m d e : Option Json) → found (codes "m") (eight q r w l t m d e) ≡ m
-found_m q r w l t None d e = refl
-found_m q r w l t (Some value) d e = refl
+found_m : (q r w l t m s d e : Option Json) → found (codes "m") (nine q r w l t m s d e) ≡ m
+found_m q r w l t None s d e = refl
+found_m q r w l t (Some value) s d e = refl
 
-found_d : (q r w l t m d e : Option Json) → found (codes "d") (eight q r w l t m d e) ≡ d
-found_d q r w l t m None e = refl
-found_d q r w l t m (Some value) e = refl
+found_s : (q r w l t m s d e : Option Json) → found (codes "s") (nine q r w l t m s d e) ≡ s
+found_s q r w l t m None d e = refl
+found_s q r w l t m (Some value) d e = refl
 
-found_e : (q r w l t m d e : Option Json) → found (codes "e") (eight q r w l t m d e) ≡ e
-found_e q r w l t m d None = refl
-found_e q r w l t m d (Some value) = refl
+found_d : (q r w l t m s d e : Option Json) → found (codes "d") (nine q r w l t m s d e) ≡ d
+found_d q r w l t m s None e = refl
+found_d q r w l t m s (Some value) e = refl
+
+found_e : (q r w l t m s d e : Option Json) → found (codes "e") (nine q r w l t m s d e) ≡ e
+found_e q r w l t m s d None = refl
+found_e q r w l t m s d (Some value) = refl
 
 -- where a list stands, or none
 listed : {A : Type 0} (read : Json → Option (List A)) (value : List A → Json) (items : List A)
@@ -418,6 +439,7 @@ step_reads delta before h =
     let l = list_offer numbers_value (access_numbers (load_made outcome delta.load)) in
     let t = list_offer runs_value (private_bytes outcome delta.stored.items) in
     let m = list_offer runs_value (memory_bytes outcome delta.stored.items) in
+    let s = list_offer numbers_value (pending_numbers delta.pending) in
     let d = list_offer lists_value (hit_numbers 0 delta.hits) in
     let e = word_offer (event_word outcome) in
     let find = offered delta before in
@@ -428,23 +450,26 @@ step_reads delta before h =
       core = number_reads delta.core h.core;
       kind = refl;
       registers = numbers_read registers (recursion_from_All IsNumber registers h.registers);
-      state = ap (option_and_then as_str) (find (codes "q") ∙ found_q q r w l t m d e)
+      state = ap (option_and_then as_str) (find (codes "q") ∙ found_q q r w l t m s d e)
           ∙ worded (new_word before delta.state);
-      reads = ap (list_or_none (list_of number_of)) (find (codes "r") ∙ found_r q r w l t m d e)
+      reads = ap (list_or_none (list_of number_of)) (find (codes "r") ∙ found_r q r w l t m s d e)
           ∙ listed (list_of number_of) numbers_value delta.reads.items (numbers_read delta.reads.items fits.reads);
-      writes = ap (list_or_none (list_of number_of)) (find (codes "w") ∙ found_w q r w l t m d e)
+      writes = ap (list_or_none (list_of number_of)) (find (codes "w") ∙ found_w q r w l t m s d e)
           ∙ listed (list_of number_of) numbers_value delta.writes.items (numbers_read delta.writes.items fits.writes);
-      load = ap (list_or_none (list_of number_of)) (find (codes "l") ∙ found_l q r w l t m d e)
+      load = ap (list_or_none (list_of number_of)) (find (codes "l") ∙ found_l q r w l t m s d e)
           ∙ listed (list_of number_of) numbers_value (access_numbers (load_made outcome delta.load))
           (numbers_read (access_numbers (load_made outcome delta.load)) fits.load);
-      private = ap (list_or_none stored_of) (find (codes "t") ∙ found_t q r w l t m d e)
+      private = ap (list_or_none stored_of) (find (codes "t") ∙ found_t q r w l t m s d e)
           ∙ listed stored_of runs_value (private_bytes outcome delta.stored.items)
           (runs_are_read (private_bytes outcome delta.stored.items) fits.private);
-      memory = ap (list_or_none stored_of) (find (codes "m") ∙ found_m q r w l t m d e)
+      memory = ap (list_or_none stored_of) (find (codes "m") ∙ found_m q r w l t m s d e)
           ∙ listed stored_of runs_value (memory_bytes outcome delta.stored.items)
           (runs_are_read (memory_bytes outcome delta.stored.items) fits.memory);
-      hits = ap (list_or_none (list_of (list_of number_of))) (find (codes "d") ∙ found_d q r w l t m d e)
+      pending = ap (list_or_none (list_of number_of)) (find (codes "s") ∙ found_s q r w l t m s d e)
+          ∙ listed (list_of number_of) numbers_value (pending_numbers delta.pending)
+          (numbers_read (pending_numbers delta.pending) fits.pending);
+      hits = ap (list_or_none (list_of (list_of number_of))) (find (codes "d") ∙ found_d q r w l t m s d e)
           ∙ listed (list_of (list_of number_of)) lists_value (hit_numbers 0 delta.hits)
           (lists_read (hit_numbers 0 delta.hits) fits.hits);
-      event = ap (option_and_then as_str) (find (codes "e") ∙ found_e q r w l t m d e) ∙ worded (event_word outcome);
+      event = ap (option_and_then as_str) (find (codes "e") ∙ found_e q r w l t m s d e) ∙ worded (event_word outcome);
     }

@@ -1,24 +1,21 @@
 -- The values of a step's line: what is printed of them, and what is read in them.
-use Rattle.std.proofs.Common.{◌≡◌, ◌∙◌, ℕ, zero, suc, ◌+◌, ◌<◌, ◌≤◌, ◌^◌, Bool, true, false, cond, List, [], ◌∷◌, ◌++◌}
-use Rattle.std.proofs.Common.{Option, Some, None, ap, append_assoc, append-nil, arith, codes, decimal, length, map}
+use Rattle.std.proofs.Common.{◌≡◌, ◌∙◌, ℕ, zero, suc, ◌+◌, ◌<◌, Bool, true, false, List, [], ◌∷◌, ◌++◌}
+use Rattle.std.proofs.Common.{Some, ap, append_assoc, arith, codes, decimal, map}
 use Rattle.std.proofs.Common.{refl, subst, sym}
 use Rattle.std.proofs.lemmas.Bool.{and_from, eqb-true, le-leb}
 use Rattle.std.proofs.lemmas.Fmt.{decimal_is_IsNumeral}
-use Rattle.std.proofs.lemmas.List.Elements.{recursion_from_All}
 use Rattle.std.proofs.lemmas.Str.Parse.{digit_from_value}
 use Rattle.std.specs.List.{AllByRecursion, flat_map, join_with_byte}
-use Rattle.std.specs.Option.{option_and_then, option_map}
-use Rattle.std.specs.Prelude.{All, if◌then◌else◌, nat_eq, slice_index}
+use Rattle.std.specs.Prelude.{if◌then◌else◌, nat_eq}
 use Rattle.std.specs.Result.{result_ok}
 use Rattle.std.specs.Str.{all_ascii_digits}
-use Rattle.std.specs.Str.Parse.{AllDigits, digits_value}
+use Rattle.std.specs.Str.Parse.{AllDigits}
 use Rattle.hex.proofs.HexLemmas.{decode_of-encode_lower}
 use Rattle.hex.specs.Hex.{IsBytes, encode_lower, encode_with}
 use Rattle.json.specs.Json.{Items, Json, array, item, no_items, number, string}
-use Rattle.json.specs.Print.{escape, quoted}
 use Rattle.page_steps.specs.Numbers.{numbers_text}
 use Rattle.page_steps.specs.Reading.{IsNumber, bytes_from, hex_of, items_read, list_of, number_of, runs_read, stored_of}
-use Rattle.page_steps.specs.Stored.{first_text, inner_text, joint_text, more_text, stored_text}
+use Rattle.page_steps.specs.Stored.{first_text, inner_text, more_text, stored_text}
 use Rattle.page_steps.specs.Types.{StoredByte}
 use Rattle.page_steps.proofs.Escaping.{hex_stays}
 use Rattle.page_steps.proofs.Printing.{ArePrints, IsPrint, array_prints, behind_all, joined, number_prints, word_prints}

@@ -9,7 +9,7 @@ use Rattle.page_steps.specs.Numbers.{numbers_text}
 use Rattle.page_steps.specs.Stored.{stored_text}
 use Rattle.page_steps.specs.Types.{Aborted, AbortedBy, Access, B, Begun, Committed, CoreState, D, Drained, Hit, Idle}
 use Rattle.page_steps.specs.Types.{Inside, Kind}
-use Rattle.page_steps.specs.Types.{Loaded, Outcome, PageDelta, Plain, Read, Stopped, StoredByte, Width, Write}
+use Rattle.page_steps.specs.Types.{Loaded, Outcome, PageDelta, Plain, Read, Stopped, Store, Width, Write}
 use Rattle.page_steps.specs.Words.{quoted_state}
 
 -- ---- members
@@ -58,6 +58,15 @@ store_name (Aborted status) = codes "\"m\":"
 store_name (AbortedBy by status) = codes "\"m\":"
 store_name Drained = codes "\"m\":"
 
+-- of a store that is pending its address, how many bytes, and what is stored
+abbrev pub store_numbers : Store → List ℕ
+store_numbers store = store.addr ∷ bytes_of_width store.width ∷ store.value ∷ []
+
+-- the store that is pending now
+abbrev pub pending_member : Option Store → List ℕ
+pending_member None = []
+pending_member (Some store) = codes "\"s\":" ++ numbers_text (store_numbers store)
+
 abbrev pub kind_number : Kind → ℕ
 kind_number Read = 0
 kind_number Write = 1
@@ -92,6 +101,7 @@ members_of delta before =
     ∷ named (codes "\"w\":") numbers_text delta.writes.items
     ∷ access_member (load_made delta.outcome delta.load)
     ∷ named (store_name delta.outcome) stored_text delta.stored.items
+    ∷ pending_member delta.pending
     ∷ hits_member delta.hits
     ∷ event_member delta.outcome
     ∷ []

@@ -11,11 +11,11 @@ use Rattle.hex.specs.Hex.{decode_of}
 use Rattle.json.specs.Find.{as_array, as_number, as_str, at, get}
 use Rattle.json.specs.Json.{Items, Json, document, item, no_items}
 use Rattle.tm_hist.specs.Lines.{interference_word, state_word}
-use Rattle.page_steps.specs.Members.{bytes_of_width, kind_number, load_made}
+use Rattle.page_steps.specs.Members.{bytes_of_width, kind_number, load_made, store_numbers}
 use Rattle.page_steps.specs.Registers.{changed_numbers}
 use Rattle.page_steps.specs.Types.{Aborted, AbortedBy, Access, Begun, Committed, CoreState, Hit, Idle, Inside, Loaded}
 use Rattle.page_steps.specs.Types.{Drained, Open, Outcome}
-use Rattle.page_steps.specs.Types.{AtStop, Condemned, Mid, PageDelta, Plain, Running, Stopped, StoredByte}
+use Rattle.page_steps.specs.Types.{AtStop, Condemned, Mid, PageDelta, Plain, Running, Stopped, Store, StoredByte}
 use Rattle.page_steps.specs.Words.{letter_of}
 
 -- ---- values
@@ -77,6 +77,10 @@ abbrev pub access_numbers : Option Access → List ℕ
 access_numbers None = []
 access_numbers (Some access) = access.addr ∷ bytes_of_width access.width ∷ []
 
+abbrev pub pending_numbers : Option Store → List ℕ
+pending_numbers None = []
+pending_numbers (Some store) = store_numbers store
+
 -- a step inside of a transaction stores privately, every other one to memory
 abbrev pub is_inside : Outcome → Bool
 is_inside Inside = true
@@ -130,6 +134,7 @@ pub record ReadsAs (delta : PageDelta) (before : CoreState) (text : List ℕ) : 
       ≡ Some (private_bytes delta.outcome delta.stored.items)
   pub memory : list_or_none stored_of (member_of (codes "m") line)
       ≡ Some (memory_bytes delta.outcome delta.stored.items)
+  pub pending : numbers_of (codes "s") line ≡ Some (pending_numbers delta.pending)
   pub hits : list_or_none (list_of (list_of number_of)) (member_of (codes "d") line) ≡ Some (hit_numbers 0 delta.hits)
   pub event : option_and_then as_str (member_of (codes "e") line) ≡ event_word delta.outcome
 
@@ -155,5 +160,6 @@ pub record IsInRange (delta : PageDelta) : Type 0 where
   pub writes : All IsNumber delta.writes.items
   pub load : IfSome delta.load (λ access. IsNumber access.addr)
   pub stored : All (λ byte. IsNumber byte.address × (byte.byte < 256)) delta.stored.items
+  pub pending : IfSome delta.pending (λ store. IsNumber store.addr × IsNumber store.value)
   pub cores : length delta.hits ≤ 64
   pub hits : All (λ hit. IfSome hit (λ hit. IsNumber hit.line)) delta.hits

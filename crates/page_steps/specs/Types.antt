@@ -4,7 +4,7 @@ pub use Rattle.ia_word.specs.declared.width.Width.TheVariants.{B, D}
 pub use Rattle.tm_page.specs.declared.delta.Changes.{Changes}
 pub use Rattle.tm_page.specs.declared.delta.PageDelta.{PageDelta}
 pub use Rattle.tm_page.specs.declared.delta.StoredByte.{StoredByte}
-pub use Rattle.tm_page.specs.Types.{Hit, Regs}
+pub use Rattle.tm_page.specs.Types.{Hit, Regs, Store}
 pub use Rattle.tm_page.specs.Types.{CoreState, Interference, Outcome, Aborted, AbortedBy, Begun, Committed, Idle}
 pub use Rattle.tm_page.specs.Types.{Drained, Inside}
 pub use Rattle.tm_page.specs.Types.{Loaded, Plain, Stopped}

@@ -12,9 +12,8 @@ ghost use Rattle.tm_hist.specs.Lines.{state_word};
 ghost use Rattle.text_out.specs.Writing.{Wrote};
 ghost use Rattle.page_steps.specs.Members.{access_member, bytes_of_width, event_member, hits_from, hits_member};
 ghost use Rattle.page_steps.specs.Members.{kind_number};
-ghost use Rattle.page_steps.specs.Members.{lead, load_made, member_text, members_of, members_text, named, some_then};
-ghost use Rattle.page_steps.specs.Members.{state_member};
-ghost use Rattle.page_steps.specs.Members.{store_name};
+ghost use Rattle.page_steps.specs.Members.{lead, load_made, member_text, members_of, members_text, named};
+ghost use Rattle.page_steps.specs.Members.{pending_member, some_then, state_member, store_name, store_numbers};
 ghost use Rattle.page_steps.specs.Numbers.{numbers_text};
 ghost use Rattle.page_steps.specs.Stored.{stored_text};
 
@@ -22,6 +21,7 @@ use crate::numbers::write_numbers;
 use crate::stored::write_stored;
 use crate::words::write_state;
 use ia_addr::Access;
+use ia_exec::Store;
 use ia_word::Width;
 use page_text::write_comma;
 use text_out::text_line::TextLine;
@@ -46,6 +46,7 @@ pub fn write_members<O: Out>(
     let some = put_lines(some, b"\"w\":", delta.writes.as_slice(), out)?;
     let some = put_load(some, load_made(delta.outcome, delta.load), out)?;
     let some = put_stored(some, delta.outcome, delta.stored.as_slice(), out)?;
+    let some = put_pending(some, delta.pending, out)?;
     let some = put_hits(some, &delta.hits, out)?;
     let some = put_event(some, delta.outcome, out)?;
     put_end(some, out)
@@ -193,6 +194,27 @@ fn store_name(outcome: Outcome) -> &'static [u8]
         | Outcome::AbortedBy(_, _)
         | Outcome::Drained => b"\"m\":",
     }
+}
+
+// The store that is pending now.
+fn put_pending<O: Out>(some: bool, store: Option<Store>, out: &mut O) -> Result<bool, WriteFault>
+    ensures text { OnOk result (Wrote (O.device out.old) (O.device out.new) (member_text some (pending_member store))) }
+    ensures some { IfOk result (λ is. is ≡ some_then some (pending_member store)) }
+{
+    let Some(store) = store else {
+        return Ok(some);
+    };
+    put_lead(some, out)?;
+    out.put(b"\"s\":")?;
+    write_numbers(&store_numbers(store), out)?;
+    Ok(true)
+}
+
+/// The numbers of a store that is pending: its address, how many bytes, and what is stored.
+pub fn store_numbers(store: Store) -> [u32; 3]
+    ensures { result ≡ store_numbers store }
+{
+    [store.addr, bytes_of_width(store.width), store.value]
 }
 
 // Whom the step condemned.

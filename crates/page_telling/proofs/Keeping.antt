@@ -1,10 +1,10 @@
 -- Bytes that are kept, some more and some fewer.
-use Rattle.std.proofs.Common.{◌≡◌, ◌∙◌, ℕ, ◌+◌, ◌<◌, Bool, true, false, cond, not, List, [], ◌∷◌, ◌++◌, ◌&&◌, ◌||◌, ap}
-use Rattle.std.proofs.Common.{sym, refl, subst, take, length, get_or, ⊎_elim}
+use Rattle.std.proofs.Common.{◌≡◌, ◌∙◌, ℕ, ◌+◌, ◌<◌, Bool, true, false, cond, List, [], ◌∷◌, ◌++◌, ◌&&◌, ◌||◌, ap}
+use Rattle.std.proofs.Common.{sym, refl, take, length, get_or, ⊎_elim}
 use Rattle.std.proofs.lemmas.Bool.{cases_eq, eqb-true, ne_eqb}
 use Rattle.std.proofs.lemmas.List.Folds.{list_any-append, list_any_more}
 use Rattle.std.proofs.lemmas.List.Sorted.{IsPermutation-insert, list_any-IsPermutation}
-use Rattle.std.specs.List.{insert, list_any}
+use Rattle.std.specs.List.{insert}
 use Rattle.std.specs.Prelude.{nat_eq}
 use Rattle.tm_page.specs.Applied.{is_listed}
 use Rattle.tm_page.specs.declared.delta.StoredByte.{StoredByte}

@@ -1,6 +1,6 @@
 -- What is known of a machine that is told: what it stands for, and that each byte that its transactions keep is among
 -- those known.
-use Rattle.std.proofs.Common.{◌≡◌, ◌∙◌, ℕ, ◌<◌, ◌%◌, Bool, true, false, List, [], ◌∷◌, ◌++◌, ◌&&◌, ◌||◌, Option, Some}
+use Rattle.std.proofs.Common.{◌≡◌, ◌∙◌, ℕ, ◌<◌, ◌%◌, Bool, true, false, List, [], ◌∷◌, ◌&&◌, ◌||◌, Option, Some}
 use Rattle.std.proofs.Common.{None, ap, length, refl, sym, subst, ⊎_elim, if◌then◌else◌}
 use Rattle.std.specs.FinMap as map_of
 use Rattle.std.specs.FinSet as set
@@ -18,7 +18,8 @@ use Rattle.tm_model.specs.declared.outcome.Pick.{Pick}
 use Rattle.ia_image.specs.Program.{ProgramValue as Program, start_regs}
 use Rattle.elide_setup.specs.Runs.{IsMachineStep, IsRunOf}
 use Rattle.tm_core.specs.declared.limits.Limits.{Limits}
-use Rattle.tm_core.specs.Theorem.{IsRun, ShownMachine as Machine, StandsFor, TakesStepUnder, machine_setting, view_at}
+use Rattle.tm_core.specs.Theorem.{IsRun, ShownMachine as Machine, StandsFor, TakesStepUnder, machine_setting}
+use Rattle.tm_core.specs.Theorem.{pending_at, view_at}
 use Rattle.tm_model.specs.Setting.{Setting}
 use Rattle.tm_model.specs.State.{State, opening_state}
 use Rattle.tm_page.proofs.Own.{IsOutside, outside_closed}
@@ -78,18 +79,14 @@ takes_step before after pick outcome h state doomed stands =
 -- a step that was made, told of a machine of which this is known
 pub told_of : (before after : Machine) (pick : Pick) (outcome : Outcome) (reach : Reach) (row : List ℕ)
     (old : List KeptByte) (delta : PageDelta) →
-    before.store_buffer ≡ 0 → before.pending ≡ [] →
     IsMachineStep before pick outcome after → pick.core < length before.views → IsReachSaid before pick.core reach →
     ((address : ℕ) → is_listed row address ≡ is_kept old pick.core address) →
     IsDifference before after pick.core outcome reach row delta →
     (state : State) (doomed : ℕ → Option ℕ) → StandsFor before state doomed → AreAllKept before old
     → IsTold before after pick.core outcome delta
-told_of before after pick outcome reach row old delta most left made within said listed difference state doomed stands
-    all =
+told_of before after pick outcome reach row old delta made within said listed difference state doomed stands all =
     record {
       within = within;
-      most = most;
-      none = left;
       same = made.same;
       event = pick.event;
       state = state;
@@ -116,7 +113,11 @@ core_of view = record {
 }
 
 abbrev page_of : Machine → Page
-page_of machine = record { memory = slice_index machine.memory; cores = λ number. core_of (view_at machine number) }
+page_of machine = record {
+  memory = slice_index machine.memory;
+  cores = λ number. core_of (view_at machine number);
+  pending = pending_at machine;
+}
 
 shows_itself : (machine : Machine) → Shows machine (page_of machine)
 shows_itself machine = record {
@@ -129,6 +130,7 @@ shows_itself machine = record {
     writes = λ line. refl;
     private = λ address below. refl;
   };
+  pending = λ number within. refl;
 }
 
 -- ---- the bytes that are kept behind a step
@@ -224,23 +226,19 @@ all_none delta view core number address outcome old new is_core is_outcome kept 
 
 -- ---- steps
 
--- the same where the machine has no store buffers
-abbrev pub IsKnownAlone : Machine → List KeptByte → Type 0
-IsKnownAlone machine bytes = machine.store_buffer ≡ 0 → IsKnown machine bytes
-
 pub told_step : (before after : Machine) (old new : List KeptByte) (told : ToldStep) →
-    IsMade before old told after new → IsKnownAlone before old → IsStepTold before told after
+    IsMade before old told after new → IsKnown before old → IsStepTold before told after
 told_step before after old new told made known = record {
   step = made.step;
   mode = made.mode;
-  told = λ off. let k : IsKnown before old = known off in made.told off k.state k.doomed k.stands k.kept;
+  told = made.told known.state known.doomed known.stands known.kept;
 }
 
-known_then : (before after : Machine) (old new : List KeptByte) (told : ToldStep) →
-    IsMade before old told after new → before.store_buffer ≡ 0 → IsKnown before old → IsKnown after new
-known_then before after old new told made off known =
+pub known_behind : (before after : Machine) (old new : List KeptByte) (told : ToldStep) →
+    IsMade before old told after new → IsKnown before old → IsKnown after new
+known_behind before after old new told made known =
     let is : IsTold before after told.pick.core told.outcome told.delta =
-    made.told off known.state known.doomed known.stands known.kept in
+    made.told known.state known.doomed known.stands known.kept in
     let takes = takes_step before after told.pick told.outcome made.step known.state known.doomed known.stands in
     let shows : Shows after (applied told.delta (page_of before)) =
     differences before after told.pick.core told.outcome told.delta is (page_of before) (shows_itself before) in
@@ -256,14 +254,6 @@ known_then before after old new told made off known =
           (known.kept core address (subst (λ n. core < n) made.step.same.cores within)
           (subst (λ n. IsAddress n address) size below));
     }
-
-pub known_behind : (before after : Machine) (old new : List KeptByte) (told : ToldStep) →
-    IsMade before old told after new → IsKnownAlone before old → IsKnownAlone after new
-known_behind before after old new told made known off =
-    let same : after.store_buffer ≡ before.store_buffer =
-    ap (λ (k : Setting). k.store_buffer) made.step.same.rules in
-    let none : before.store_buffer ≡ 0 = sym same ∙ off in
-    known_then before after old new told made none (known none)
 
 -- before the first step no transaction is open
 pub known_first : (program : Program) (limits : Limits) (machine : Machine) → IsRunOf program limits [] machine

@@ -1,6 +1,6 @@
 -- The lines of steps, one step after another.
-use Rattle.std.proofs.Common.{◌≡◌, ◌∙◌, ℕ, zero, suc, ◌+◌, ◌-◌, ◌<◌, ◌≤◌, Bool, true, false, List, [], ◌∷◌, ◌++◌, ◌&&◌}
-use Rattle.std.proofs.Common.{ap, append_assoc, append-nil, arith, drop, length, length-append, refl, sym, subst}
+use Rattle.std.proofs.Common.{◌≡◌, ◌∙◌, ℕ, zero, suc, ◌+◌, ◌-◌, ◌<◌, ◌≤◌, true, false, List, [], ◌∷◌, ◌++◌, ◌&&◌}
+use Rattle.std.proofs.Common.{ap, append_assoc, arith, drop, length, length-append, refl, sym, subst}
 use Rattle.std.proofs.Common.{zero-add, ⊎_elim}
 use Rattle.std.proofs.lemmas.Bool.{cases_eq, cases_lt, eq-eqb, le-leb, lt-leb, lt-ltb, ne_eqb}
 use Rattle.std.proofs.lemmas.List.{length-map}
@@ -18,7 +18,7 @@ use Rattle.elide_setup.specs.Walks.{Leads, PartsLead, steps_in}
 use Rattle.page_run.specs.Plain.{ArePlain, WrotePlain, is_unmarked}
 use Rattle.page_run.specs.declared.stretch.Stretch.{Stretch}
 use Rattle.page_run.specs.declared.window.Window.{Window}
-use Rattle.page_telling.proofs.Knowing.{IsKnownAlone, known_behind, told_step}
+use Rattle.page_telling.proofs.Knowing.{IsKnown, known_behind, told_step}
 use Rattle.page_telling.specs.Telling.{IsPiece, Spot, Tells, TellsOne, TellsStep, piece_of}
 use Rattle.page_telling.specs.Told.{AreLinesWritten, AreStepsTold, ToldStep, line_text, lines_text}
 
@@ -183,8 +183,8 @@ pub record HasTold (before : Spot) (steps : List (Pick × Outcome)) (after : Spo
 -- a step up to the last that stands in the page, and those behind it
 tells_then : (before : Spot) (step : Pick × Outcome) (steps : List (Pick × Outcome)) (next after : Spot)
     → before.made < before.window.to →
-    IsKnownAlone before.machine before.kept → TellsStep before step next
-    → (IsKnownAlone next.machine next.kept → HasTold next steps after) → HasTold before (step ∷ steps) after
+    IsKnown before.machine before.kept → TellsStep before step next
+    → (IsKnown next.machine next.kept → HasTold next steps after) → HasTold before (step ∷ steps) after
 tells_then before step steps next after within known tells others =
     let one : TellsOne before step next = tells.told within in
     let more : HasTold next steps after =
@@ -230,7 +230,7 @@ passes_all before steps after past h =
     }
 
 pub has_told : (before : Spot) (steps : List (Pick × Outcome)) (after : Spot) →
-    IsKnownAlone before.machine before.kept → AllTell before steps after → HasTold before steps after
+    IsKnown before.machine before.kept → AllTell before steps after → HasTold before steps after
 has_told before [] after known h = record {
   told = [];
   behind = [];

@@ -8,21 +8,18 @@ use Rattle.elide_setup.specs.Runs.{IsMachineStep}
 use Rattle.tm_core.specs.Theorem.{ShownMachine as Machine, StandsFor, view_at}
 use Rattle.tm_model.specs.State.{State}
 use Rattle.tm_page.specs.Difference.{IsTold}
-use Rattle.tm_page.specs.Types.{CoreState}
-use Rattle.tm_page.specs.declared.delta.PageDelta.{PageDelta}
 use Rattle.page_run.specs.Plain.{ArePlain}
 use Rattle.page_run.specs.declared.window.Window.{Window}
 use Rattle.page_telling.specs.Kept.{AreAllKept, IsKeptBehind}
 use Rattle.page_telling.specs.Told.{ToldStep, line_text, made_of}
 use Rattle.page_telling.specs.declared.kept.KeptByte.{KeptByte}
 
--- what is known of a step that was made; of what it comes to, where the machine has no store buffers
+-- what is known of a step that was made
 pub record IsMade (before : Machine) (old : List KeptByte) (one : ToldStep) (after : Machine) (new : List KeptByte)
     : Type 0 where
   pub step : IsMachineStep before one.pick one.outcome after
   pub mode : (view_at before one.pick.core).mode ≡ one.before
   pub told :
-      before.store_buffer ≡ 0 →
       (state : State) (doomed : ℕ → Option ℕ) → StandsFor before state doomed → AreAllKept before old →
       IsTold before after one.pick.core one.outcome one.delta
   pub kept : IsKeptBehind one.outcome one.pick.core one.delta.stored.items old new

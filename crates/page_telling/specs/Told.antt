@@ -26,11 +26,11 @@ pub record ToldStep : Type 0 where
 abbrev pub made_of : ToldStep → Pick × Outcome
 made_of told = (told.pick, told.outcome)
 
--- a machine made this step, and this is its delta, where the machine has no store buffers
+-- a machine made this step, and this is its delta
 pub record IsStepTold (before : Machine) (one : ToldStep) (after : Machine) : Type 0 where
   pub step : IsMachineStep before one.pick one.outcome after
   pub mode : (view_at before one.pick.core).mode ≡ one.before
-  pub told : before.store_buffer ≡ 0 → IsTold before after one.pick.core one.outcome one.delta
+  pub told : IsTold before after one.pick.core one.outcome one.delta
 
 -- one behind the other, none left out
 abbrev pub AreStepsTold : Machine → List ToldStep → Machine → Type 0

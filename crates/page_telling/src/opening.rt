@@ -1,8 +1,8 @@
 //! The machine as it is before the first step of a page.
 //!
-//! [`put_opening`] writes, in this order, registers and states, the transactions that are open, and the lines of
-//! memory that a step uses and that are not zero. It is made in memory and looked at as one piece before it goes
-//! out. When its moment has come is said in `telling`.
+//! [`put_opening`] writes, in this order, registers and states, the transactions that are open, the stores that are
+//! pending, where some are, and the lines of memory that a step uses and that are not zero. It is made in memory and
+//! looked at as one piece before it goes out. When its moment has come is said in `telling`.
 
 ghost use Rattle.std.specs.Prelude.{IfErr, OnOk};
 ghost use Rattle.elide_setup.specs.Refused.{IsUntold};
@@ -11,7 +11,7 @@ ghost use Rattle.page_run.specs.Plain.{WrotePlain};
 use crate::kept::Kept;
 use elide_setup::{Fault, Refusal};
 use page_run::{LINE, UsedLine, put_piece};
-use page_steps::{register_values, write_numbers, write_state, write_stored};
+use page_steps::{register_values, store_numbers, write_numbers, write_state, write_stored};
 use page_text::{write_comma, write_hex, write_number};
 use std::alloc::{AllocError, Global};
 use text_out::page::{Page, push_hex};
@@ -31,8 +31,8 @@ pub struct Behind {
     pub watch: Watch,
 }
 
-/// Writes the registers and states of the cores, their transactions, and the lines of memory that were used and are not
-/// zero; and the beginning of the list of steps.
+/// Writes the registers and states of the cores, their transactions, their stores that are pending, and the lines of
+/// memory that were used and are not zero; and the beginning of the list of steps.
 pub fn put_opening<O: Out>(
     alloc: Global,
     machine: &Machine,
@@ -63,7 +63,9 @@ fn write_opening<O: Out>(
     write_states(machine, out)?;
     out.put(b"],\n\"open\":{")?;
     write_transactions(alloc, machine, behind, out)?;
-    out.put(b"},\n\"bytes\":{")?;
+    out.put(b"}")?;
+    write_pending(machine, out)?;
+    out.put(b",\n\"bytes\":{")?;
     write_bytes(machine, lines, out)?;
     out.put(b"},\n\"steps\":[")?;
     Ok(())
@@ -236,6 +238,50 @@ fn write_doom<O: Out>(
         ],
         out,
     )
+}
+
+// The stores that are pending, by their cores; nothing, where none is.
+fn write_pending<O: Out>(machine: &Machine, out: &mut O) -> Result<(), WriteFault> {
+    let mut some = false;
+    for core in 0..machine.cores() {
+        if has_pending(machine, core) {
+            out.put(pending_front(some))?;
+            some = true;
+            write_stores(machine, core, out)?;
+        }
+    }
+    if some {
+        out.put(b"}")?;
+    }
+    Ok(())
+}
+
+// Whether a store of a core is pending.
+fn has_pending(machine: &Machine, core: u8) -> bool {
+    match machine.pending(core) {
+        Ok(stores) => !stores.is_empty(),
+        Err(_) => false,
+    }
+}
+
+// What stands before a core's stores: the member's name, or a comma.
+fn pending_front(some: bool) -> &'static [u8] {
+    if some { b"," } else { b",\n\"pending\":{" }
+}
+
+// A core's stores that are pending, the oldest first.
+fn write_stores<O: Out>(machine: &Machine, core: u8, out: &mut O) -> Result<(), WriteFault> {
+    out.put(b"\"")?;
+    write_number(u64::from(core), out)?;
+    out.put(b"\":[")?;
+    if let Ok(stores) = machine.pending(core) {
+        for index in 0..stores.len() {
+            write_comma(index > 0, out)?;
+            write_numbers(&store_numbers(stores[index]), out)?;
+        }
+    }
+    out.put(b"]")?;
+    Ok(())
 }
 
 // The lines of memory that were used and are not zero.

@@ -28,7 +28,7 @@ use page_run::{Stretch, UsedLine, Window, put_plain};
 use page_steps::write_step;
 use std::alloc::{AllocError, Global};
 use text_out::{Out, ToVec, WriteFault};
-use tm_core::{Machine, RunFault};
+use tm_core::{Limits, Machine, RunFault};
 use tm_model::{CoreState, Outcome, Pick};
 use tm_page::{Before, PageDelta, delta_of};
 use tm_why::Watch;
@@ -44,16 +44,14 @@ pub fn write_steps<O: Out + Drop>(
     ensures refused { IfErr result (IsNotTold stretch.entry) }
 {
     let alloc = stretch.alloc;
+    let behind = behind_none(alloc, stretch.setup.limits)?;
     let machine = new_machine(alloc, stretch.setup)?;
     let cores = machine.cores();
     let lines = Vec::from_slice(alloc, lines)?;
     let mut telling = Telling {
         alloc,
         machine,
-        behind: Behind {
-            kept: Kept::new(alloc),
-            watch: Watch::new(),
-        },
+        behind,
         window: stretch.window,
         total: stretch.total,
         made: 0,
@@ -67,6 +65,18 @@ pub fn write_steps<O: Out + Drop>(
     let Telling { out, made, .. } = telling;
     check_made(made, stretch.total, stretch.window)?;
     put_end(out)
+}
+
+// What is known before the first step of a machine with these limits.
+fn behind_none(alloc: Global, limits: Limits) -> Result<Behind, Refusal>
+    ensures kept { IfOk result (λ behind. behind.kept.bytes.items ≡ []) }
+    ensures refused { IfErr result IsAnyWant }
+{
+    let watch = Watch::new(alloc, limits)?;
+    Ok(Behind {
+        kept: Kept::new(alloc),
+        watch,
+    })
 }
 
 // That so many steps were made as the run has, those of the window among them. A schedule makes the steps again that it
@@ -208,7 +218,6 @@ fn take_step(
         machine.new behind.new.kept.bytes.items) }
     ensures refused { IfErr result (λ why. IsNoCore machine.old pick why ⊎ IsAnyWant why) }
 {
-    none_pending(machine);
     let state = state_of(machine, pick)?;
     let before = before_of(alloc, machine, pick.core)?;
     let outcome = machine.make_step(pick)?;
@@ -223,16 +232,6 @@ fn take_step(
         before: state,
         delta,
     })
-}
-
-// By this it is known that no store is pending of a machine without store buffers. What a step comes to is said of such
-// a one.
-fn none_pending(machine: &Machine)
-    ensures { machine.now.store_buffer ≡ 0 → machine.now.pending ≡ [] }
-{
-    if machine.stores() == 0 {
-        machine.nothing_pending();
-    }
 }
 
 // What the machine shows of a core that it has, before its step.

@@ -6,8 +6,8 @@ pub const HEAD: &str = "\
 <html lang=\"en\">\n\
 <head>\n\
 <meta charset=\"utf-8\">\n\
-<meta http-equiv=\"Content-Security-Policy\" content=\"default-src 'none'; script-src 'sha256-tRgoiLfgTAPLsmZf\
-od8g1gISuoX4IrLKYkCm0S0t5DA='; style-src 'sha256-sBDCIshEM8wXEiNz/Csi0eMMsrZGoxYx7zK6D9FVJhQ='; base-uri 'none\
+<meta http-equiv=\"Content-Security-Policy\" content=\"default-src 'none'; script-src 'sha256-EphanBL1m22k3w4b\
+0zih70zIW7EL0j/Pyp/GozmupLA='; style-src 'sha256-Vw9JkZ1+HuvCmq2p1qmfZGN7WtC1c5EtD0eeJITUiqA='; base-uri 'none\
 '; form-action 'none'\">\n\
 <meta name=\"viewport\" content=\"width=device-width, initial-scale=1\">\n\
 <meta name=\"color-scheme\" content=\"light dark\">\n\
@@ -32,130 +32,130 @@ border-top:5px solid var(--k);padding:8px 11px;container-type:inline-size}.core.
 nside{border-color:var(--k);color:var(--ink);background:color-mix(in srgb,var(--k) 18%,transparent)}.pill.doom\
 ed{border-color:var(--bad);color:var(--bad)}.pill.stopped{background:var(--ink);color:var(--paper);border-colo\
 r:var(--ink)}.next{font:.84rem var(--mono);margin:4px 0 6px;overflow-wrap:anywhere}.next small{color:var(--sof\
-t);font-family:var(--sans)}.core .body{display:grid;gap:0 14px;align-items:start}@container (max-width:359px){\
-.few .state{flex-basis:100%}}@container (min-width:360px){.few .core .body{grid-template-columns:15.2em minmax\
-(0,1fr)}.few .core .body .sets{margin-top:0}}.registers{display:grid;grid-template-columns:1fr 1fr;gap:1px 10p\
-x;font:.86rem var(--mono);margin:0}.registers > div{display:grid;grid-template-columns:3.5em auto 1fr;border-r\
-adius:4px;padding:0 4px;align-content:start;border-left:3px solid transparent;}.registers dt{color:var(--soft)\
-}.registers dd{margin:0}.registers .zeros{color:var(--dim)}.registers .was,.registers .back{white-space:nowrap\
-;overflow:hidden;text-overflow:ellipsis;padding-left:6px;font-size:.9em;color:var(--soft);font-weight:400;}.re\
-gisters .changed{background:var(--hot);border-left-color:var(--hotline);font-weight:700}.registers .changed dt\
-,.registers .changed .zeros,.registers .changed .back,.registers .changed .was{color:var(--ink);}.few .registe\
-rs{grid-template-columns:1fr}.few .registers > div{grid-template-columns:3.5em 5.3em 1fr}.few .registers .was,\
-.few .registers .back{grid-column:3;align-self:center}.few .registers .was + .back{display:none}#cores:not(.fe\
-w) .was{display:none}.flags b{color:var(--dim);font-weight:400;margin-right:3px}.flags b.on{color:var(--ink);f\
-ont-weight:700;text-decoration:underline}.changed .flags b{color:var(--ink)}.sets{margin:7px 0 0;font-size:.84\
-rem;display:grid;grid-template-columns:auto 1fr;gap:2px 8px}.sets dt{color:var(--soft)}.sets dd{margin:0;displ\
-ay:flex;flex-wrap:wrap;gap:3px 5px;min-width:0}.chip{border:1.5px solid var(--k,var(--rule));border-radius:5px\
-;padding:0 5px;font:.8rem var(--mono);overflow-wrap:anywhere;}.chip.written{background:color-mix(in srgb,var(-\
--k) 22%,transparent)}.chip.new{background:var(--hot);border-color:var(--hotline)}.chip.lost{border-style:dashe\
-d;border-color:var(--bad);text-decoration:line-through}*{box-sizing:border-box}[hidden],.gone{display:none !im\
-portant}html{font:15px/1.45 var(--sans);background:var(--paper);color:var(--ink);scrollbar-color:var(--rule) t\
-ransparent;}body{margin:0 auto;max-width:1880px;padding:0 14px 24px}h1{font-size:1.25rem;margin:0;overflow-wra\
-p:anywhere}h2{font-size:.8rem;margin:0;text-transform:uppercase;letter-spacing:.07em;color:var(--soft)}header{\
-display:flex;gap:8px 16px;align-items:center;flex-wrap:wrap;padding:10px 0 8px}header > div{flex:1 1 260px;min\
--width:0}code,.mono{font-family:var(--mono);overflow-wrap:anywhere}.command{margin:0;font:.78rem var(--mono);c\
-olor:var(--soft);overflow-wrap:anywhere}button,select,input[type=number]{font:inherit;color:inherit;background\
-:var(--card);border:1px solid var(--rule);border-radius:7px;padding:4px 9px;min-height:32px;}button{cursor:poi\
-nter}button:hover:not(:disabled){border-color:var(--accent)}button:disabled{opacity:.4;cursor:default}button[a\
-ria-pressed=true]{background:var(--ink);color:var(--paper)}:focus-visible{outline:3px solid var(--accent);outl\
-ine-offset:1px}.card{background:var(--card);border:1px solid var(--rule);border-radius:11px;padding:10px 12px;\
-min-width:0;margin:0;}.head{display:flex;gap:6px 10px;align-items:center;flex-wrap:wrap;margin-bottom:7px}.hea\
-d h2{flex:1}.head,.head label{font-size:.82rem}.head button,.head select{min-height:26px;padding:1px 8px;font-\
-size:.82rem}.quiet{color:var(--soft)}.name{font-family:var(--mono);overflow-wrap:anywhere}.badge{display:inlin\
-e-block;min-width:1.45em;padding:0 .3em;border-radius:5px;background:var(--k);color:var(--t);font:700 .85em/1.\
-5 var(--mono);text-align:center;vertical-align:baseline;}.hidden{position:absolute;width:1px;height:1px;overfl\
-ow:hidden;clip-path:inset(50%);white-space:nowrap;}.grid{display:grid;gap:12px;grid-template-columns:minmax(0,\
-1fr)}#left{grid-area:left}#time{grid-area:time;align-self:start}#mid{grid-area:mid}#right{grid-area:right}@med\
-ia (min-width:860px){.grid{grid-template:\"time time\" auto \"left mid\" 1fr / minmax(320px,5fr) minmax(0,8fr)\
-}.grid > div{display:flex;flex-direction:column;gap:12px;min-width:0}}@media (min-width:1100px){.grid{grid-tem\
-plate:\"left time\" auto \"left mid\" 1fr / minmax(330px,4fr) minmax(0,9fr)}}@media (min-width:1560px){.grid{g\
-rid-template:\"left time time\" auto \"left mid right\" 1fr / minmax(0,5fr) minmax(0,7fr) minmax(0,6fr);}}@med\
-ia (max-width:1559px){#right{display:none !important}}@media (max-width:859px){.grid{display:flex;flex-directi\
-on:column}.grid > div{display:contents !important}#time{align-self:auto !important}.order0{order:0}.order1{ord\
-er:1}.order2{order:2}.order3{order:3}.order4{order:4}.order5{order:5}body{padding:0 8px 110px}}textarea{width:\
-100%;font:inherit;color:inherit;background:var(--paper);border:1px solid var(--rule);border-radius:6px;padding\
-:5px 8px;resize:vertical;}kbd{font:.82em var(--mono);border:1px solid var(--rule);border-bottom-width:2px;bord\
-er-radius:4px;padding:0 5px;background:var(--paper);}footer{font-size:.85rem;color:var(--soft);margin-top:12px\
-;display:grid;gap:12px;grid-template-columns:repeat(auto-fit,minmax(min(100%,360px),1fr));}footer p{margin:4px \
-0}footer dl{display:grid;grid-template-columns:auto 1fr;gap:3px 12px;margin:4px 0}footer dd{margin:0}.framed h\
-eader,.framed footer{display:none}.framed body{padding-top:8px}.nocode .grid{display:flex !important;flex-dire\
-ction:column;align-items:stretch}.nocode #left,.nocode #right{display:contents !important}.nocode #time{align-\
-self:auto !important}#vars{display:flex;gap:6px 14px;align-items:baseline;flex-wrap:wrap;padding:7px 12px}#var\
-iables{list-style:none;display:flex;flex-wrap:wrap;gap:5px 8px;margin:0;padding:0;flex:1}.variable{border:1px \
-solid var(--rule);border-radius:7px;padding:1px 9px;display:flex;gap:8px;align-items:baseline;font-size:.9rem;\
-flex-wrap:wrap;}.variable .value{font:700 1.05em var(--mono)}.variable .changed{background:var(--hot);box-shad\
-ow:inset 3px 0 var(--hotline);padding:0 7px;border-radius:3px;}.variable .name{color:var(--soft)}.line{border:\
-1.5px solid var(--rule);border-radius:8px;padding:6px 8px;margin-bottom:8px}.line.hit{border-color:var(--bad);\
-box-shadow:0 0 0 1.5px var(--bad)}.line p{margin:0 0 5px;display:flex;flex-wrap:wrap;gap:3px 8px;align-items:c\
-enter;font-size:.86rem}#set-body{container-type:inline-size}.words{display:grid;grid-template-columns:repeat(4\
-,minmax(0,1fr));gap:3px;font:.75rem var(--mono)}@container (min-width:640px){.words{grid-template-columns:repe\
-at(8,minmax(0,1fr))}}.word{border:1px solid var(--rule);border-radius:4px;padding:1px 3px 0;min-width:0;overfl\
-ow:hidden;display:flex;flex-direction:column;}.word .at{font-size:.68rem;color:var(--soft);white-space:nowrap;\
-overflow:hidden;text-overflow:ellipsis;min-height:1.2em;}.word.empty .value{color:var(--dim)}.word.changed{bac\
-kground:var(--hot);border-color:var(--hotline)}.word.changed .at{color:var(--ink)}.word .private{background:va\
-r(--k);color:var(--t);border-radius:3px;padding:0 2px;margin-top:1px;white-space:nowrap;}.word .readers{displa\
-y:flex;gap:2px;margin-top:auto;padding:2px 0}.word .readers i{height:4px;flex:1;background:var(--k)}#list{list\
--style:none;margin:0;padding:0;font-size:.87rem;max-height:310px;overflow:auto;position:relative;}#list button\
-{all:unset;box-sizing:border-box;display:grid;grid-template-columns:3.6em auto 1fr;gap:0 8px;width:100%;paddin\
-g:3px 5px;border-radius:5px;cursor:pointer;border-left:4px solid transparent;}#list button:hover{background:va\
-r(--paper)}#list button:focus-visible{outline:3px solid var(--accent)}#list [aria-current]{background:var(--ho\
-t);border-left-color:var(--hotline)}#list .badge{align-self:start}#list .step{font-variant-numeric:tabular-num\
-s;text-align:right;color:var(--soft)}#list [aria-current] .step{color:var(--ink)}#list .cross{color:var(--bad)\
-;font-weight:700}#list span{overflow-wrap:anywhere;min-width:0}@media (prefers-reduced-motion:no-preference){.\
-row,.word,.registers > div{transition:background-color .15s}}@media print{:root{--paper:#fff}html{font-size:11\
-px}body{max-width:none;padding:0}.bar,header button,.head button,.head select,.head label,footer,#events,#over\
-view{display:none !important}#stage{position:static;box-shadow:none}.told{min-height:0 !important}.grid,.grid \
-> div{display:block !important}.grid > div > *,#time{margin-bottom:10px}#cores{display:grid !important;grid-te\
-mplate-columns:repeat(3,1fr)}.card,.core,.line{break-inside:avoid}#source{max-height:none;overflow:visible}.ro\
-w{white-space:pre-wrap;min-width:0}*{print-color-adjust:exact;-webkit-print-color-adjust:exact}}#source{max-he\
-ight:max(300px,calc(100vh - 250px));overflow:auto;position:relative;font:.86rem/1.55 var(--mono);border-radius\
-:6px;}.row{display:grid;white-space:pre;min-width:max-content;border-left:4px solid transparent;tab-size:8;gri\
-d-template-columns:minmax(min(var(--marks,4.4em),19vw),max-content) minmax(2.6em,max-content) 1fr;}.row > .mar\
-ks{text-align:right;padding-right:4px;font-size:.94em}.row .number{color:var(--soft);text-align:right;padding-\
-right:9px;user-select:none}.row .comment{color:var(--soft)}.row .label{font-weight:700}.row.at{background:colo\
-r-mix(in srgb,var(--k) 13%,transparent)}.row.at .number,.row.at .comment{color:var(--ink)}.row.did{border-left\
--color:var(--k)}.row.did .instruction{text-decoration:underline;text-decoration-thickness:2px;text-underline-o\
-ffset:3px;text-decoration-color:var(--k);}.badge.doomed{background:var(--card);color:var(--bad);box-shadow:ins\
-et 0 0 0 2px var(--bad)}.badge.back{background:none;color:var(--ink);box-shadow:inset 0 0 0 2px var(--k,var(--\
-soft))}.badge.off{background:var(--card);color:var(--soft);box-shadow:inset 0 0 0 2px var(--soft)}@media (max-\
-width:859px){#source{max-height:46vh}}#stage{position:sticky;top:0;z-index:5;padding:0;margin-bottom:12px;box-\
-shadow:0 3px 12px #0002;overflow:hidden;}.told{display:flex;border-left:9px solid var(--k,var(--rule));padding\
-:9px 14px;gap:14px;align-items:flex-start;min-height:5.9rem;}.noted .told{min-height:8rem}.told > div + div{mi\
-n-width:0;flex:1}#count{font:700 1.5rem/1.1 var(--sans);font-variant-numeric:tabular-nums;min-width:3.4em;whit\
-e-space:nowrap;}#count small{display:block;font-size:.72rem;font-weight:400;color:var(--soft)}#say{margin:0;fo\
-nt-size:1.05rem;overflow-wrap:anywhere}#say code{background:var(--paper);border:1px solid var(--rule);border-r\
-adius:4px;padding:0 4px;font-size:.95em;}.doomline{display:block;color:var(--bad);font-weight:650;margin-top:2\
-px}.why{display:block;font-size:.87rem;color:var(--soft);margin-top:1px}#note{margin:7px 0 1px;padding:6px 11p\
-x;background:var(--note);border-left:4px solid var(--hotline);border-radius:4px;font-size:1.05rem;white-space:\
-pre-wrap;overflow-wrap:anywhere;}.bar{display:flex;gap:6px;align-items:center;flex-wrap:wrap;padding:6px 12px \
-8px;border-top:1px solid var(--rule);}.bar button{display:inline-flex;align-items:center;justify-content:cente\
-r;gap:4px;min-width:38px}.bar svg{width:16px;height:16px;fill:currentColor;flex:none}#slide{flex:1 1 180px;min\
--width:110px;accent-color:var(--accent);height:26px}#go{width:5.4em}#play{background:var(--ink);color:var(--pa\
-per);border-color:var(--ink);min-width:76px}@media (max-width:859px){#stage{position:static}.bar{position:fixe\
-d;bottom:0;left:0;right:0;background:var(--card);z-index:9;box-shadow:0 -3px 12px #0002;justify-content:center\
-;padding:5px 8px;gap:4px;}.bar button{min-width:36px;padding:3px 6px}.bar .opt{display:none}.told,.noted .told\
-{min-height:0;padding:7px 10px;gap:9px}#say{font-size:.95rem}#count{font-size:1.15rem;min-width:2.6em}}#timeli\
-ne{display:block;width:100%;touch-action:pan-y;cursor:pointer;user-select:none}#overview{display:block;width:1\
-00%;margin-top:6px;border-radius:5px;cursor:pointer;touch-action:none}.lines text{font:12px var(--mono);fill:v\
-ar(--ink)}.lines .tick{fill:var(--soft);font-size:11px;text-anchor:middle}.lines .mid{text-anchor:middle}.line\
-s .lab{font-weight:700}.lines .grid{stroke:var(--rule)}.lines .out{fill:var(--cell)}.lines .in{fill:var(--k)}.\
-lines .wait{fill:var(--k);fill-opacity:.2;stroke:var(--k);stroke-width:1.6}.lines .other{stroke-dasharray:5 3}\
-.lines .open{stroke-dasharray:1.5 3}.lines .doomed{fill:url(#hatch);stroke:var(--bad);stroke-width:2}.lines .h\
-atch-line{stroke:var(--bad);stroke-width:2.6}.lines .hatch-base{fill:var(--badsoft)}.lines text.on{fill:var(--\
-t)}.lines .abort{fill:var(--card);stroke:var(--bad);stroke-width:2}.lines .abort-other{fill:var(--card);stroke\
-:var(--k);stroke-width:2}.lines .abort-outside{fill:var(--card);stroke:var(--ink);stroke-width:2;stroke-dashar\
-ray:3 2}.lines text.abort-text{fill:var(--bad);font-weight:700}.lines text.outside-text{fill:var(--ink);font-w\
-eight:700}.lines .stop{fill:var(--ink)}.lines text.stop-text{fill:var(--paper)}.lines .arrow{stroke:var(--bad)\
-;stroke-width:2.4;fill:none;marker-end:url(#tip)}.lines .halo{stroke:var(--card);stroke-width:6;fill:none}.lin\
-es .origin,.lines .tip{fill:var(--bad)}.lines .arrow-label{fill:var(--bad);font-weight:700;font-size:11.5px;st\
-roke:var(--card);stroke-width:4px;paint-order:stroke;}.lines .segment{fill:none;stroke:var(--soft)}.lines .fut\
-ure{fill:var(--card);pointer-events:none}.lines .cursor{fill:none;stroke:var(--ink);stroke-width:2.2;pointer-e\
-vents:none}.lines .flag{fill:var(--ink);pointer-events:none}.lines text.flag-text{fill:var(--paper);font-weigh\
-t:700;text-anchor:middle;pointer-events:none}.lines .later-dim{opacity:.4}.lines .later-hide{display:none}.lin\
-es .note-mark{fill:var(--hotline)}.legend{display:flex;flex-wrap:wrap;gap:3px 13px;font-size:.8rem;color:var(-\
--soft);margin-top:6px;align-items:center;}.legend svg{height:16px;vertical-align:-3px;margin-right:5px}</style\
->\n\
+t);font-family:var(--sans)}.pending{font:.84rem var(--mono);margin:0 0 2px;color:var(--soft)}.core .body{displ\
+ay:grid;gap:0 14px;align-items:start}@container (max-width:359px){.few .state{flex-basis:100%}}@container (min\
+-width:360px){.few .core .body{grid-template-columns:15.2em minmax(0,1fr)}.few .core .body .sets{margin-top:0}\
+}.registers{display:grid;grid-template-columns:1fr 1fr;gap:1px 10px;font:.86rem var(--mono);margin:0}.register\
+s > div{display:grid;grid-template-columns:3.5em auto 1fr;border-radius:4px;padding:0 4px;align-content:start;\
+border-left:3px solid transparent;}.registers dt{color:var(--soft)}.registers dd{margin:0}.registers .zeros{co\
+lor:var(--dim)}.registers .was,.registers .back{white-space:nowrap;overflow:hidden;text-overflow:ellipsis;padd\
+ing-left:6px;font-size:.9em;color:var(--soft);font-weight:400;}.registers .changed{background:var(--hot);borde\
+r-left-color:var(--hotline);font-weight:700}.registers .changed dt,.registers .changed .zeros,.registers .chan\
+ged .back,.registers .changed .was{color:var(--ink);}.few .registers{grid-template-columns:1fr}.few .registers \
+> div{grid-template-columns:3.5em 5.3em 1fr}.few .registers .was,.few .registers .back{grid-column:3;align-sel\
+f:center}.few .registers .was + .back{display:none}#cores:not(.few) .was{display:none}.flags b{color:var(--dim\
+);font-weight:400;margin-right:3px}.flags b.on{color:var(--ink);font-weight:700;text-decoration:underline}.cha\
+nged .flags b{color:var(--ink)}.sets{margin:7px 0 0;font-size:.84rem;display:grid;grid-template-columns:auto 1\
+fr;gap:2px 8px}.sets dt{color:var(--soft)}.sets dd{margin:0;display:flex;flex-wrap:wrap;gap:3px 5px;min-width:\
+0}.chip{border:1.5px solid var(--k,var(--rule));border-radius:5px;padding:0 5px;font:.8rem var(--mono);overflo\
+w-wrap:anywhere;}.chip.written{background:color-mix(in srgb,var(--k) 22%,transparent)}.chip.new{background:var\
+(--hot);border-color:var(--hotline)}.chip.lost{border-style:dashed;border-color:var(--bad);text-decoration:lin\
+e-through}*{box-sizing:border-box}[hidden],.gone{display:none !important}html{font:15px/1.45 var(--sans);backg\
+round:var(--paper);color:var(--ink);scrollbar-color:var(--rule) transparent;}body{margin:0 auto;max-width:1880\
+px;padding:0 14px 24px}h1{font-size:1.25rem;margin:0;overflow-wrap:anywhere}h2{font-size:.8rem;margin:0;text-t\
+ransform:uppercase;letter-spacing:.07em;color:var(--soft)}header{display:flex;gap:8px 16px;align-items:center;\
+flex-wrap:wrap;padding:10px 0 8px}header > div{flex:1 1 260px;min-width:0}code,.mono{font-family:var(--mono);o\
+verflow-wrap:anywhere}.command{margin:0;font:.78rem var(--mono);color:var(--soft);overflow-wrap:anywhere}butto\
+n,select,input[type=number]{font:inherit;color:inherit;background:var(--card);border:1px solid var(--rule);bor\
+der-radius:7px;padding:4px 9px;min-height:32px;}button{cursor:pointer}button:hover:not(:disabled){border-color\
+:var(--accent)}button:disabled{opacity:.4;cursor:default}button[aria-pressed=true]{background:var(--ink);color\
+:var(--paper)}:focus-visible{outline:3px solid var(--accent);outline-offset:1px}.card{background:var(--card);b\
+order:1px solid var(--rule);border-radius:11px;padding:10px 12px;min-width:0;margin:0;}.head{display:flex;gap:\
+6px 10px;align-items:center;flex-wrap:wrap;margin-bottom:7px}.head h2{flex:1}.head,.head label{font-size:.82re\
+m}.head button,.head select{min-height:26px;padding:1px 8px;font-size:.82rem}.quiet{color:var(--soft)}.name{fo\
+nt-family:var(--mono);overflow-wrap:anywhere}.badge{display:inline-block;min-width:1.45em;padding:0 .3em;borde\
+r-radius:5px;background:var(--k);color:var(--t);font:700 .85em/1.5 var(--mono);text-align:center;vertical-alig\
+n:baseline;}.hidden{position:absolute;width:1px;height:1px;overflow:hidden;clip-path:inset(50%);white-space:no\
+wrap;}.grid{display:grid;gap:12px;grid-template-columns:minmax(0,1fr)}#left{grid-area:left}#time{grid-area:tim\
+e;align-self:start}#mid{grid-area:mid}#right{grid-area:right}@media (min-width:860px){.grid{grid-template:\"ti\
+me time\" auto \"left mid\" 1fr / minmax(320px,5fr) minmax(0,8fr)}.grid > div{display:flex;flex-direction:colu\
+mn;gap:12px;min-width:0}}@media (min-width:1100px){.grid{grid-template:\"left time\" auto \"left mid\" 1fr / m\
+inmax(330px,4fr) minmax(0,9fr)}}@media (min-width:1560px){.grid{grid-template:\"left time time\" auto \"left m\
+id right\" 1fr / minmax(0,5fr) minmax(0,7fr) minmax(0,6fr);}}@media (max-width:1559px){#right{display:none !im\
+portant}}@media (max-width:859px){.grid{display:flex;flex-direction:column}.grid > div{display:contents !impor\
+tant}#time{align-self:auto !important}.order0{order:0}.order1{order:1}.order2{order:2}.order3{order:3}.order4{\
+order:4}.order5{order:5}body{padding:0 8px 110px}}textarea{width:100%;font:inherit;color:inherit;background:va\
+r(--paper);border:1px solid var(--rule);border-radius:6px;padding:5px 8px;resize:vertical;}kbd{font:.82em var(\
+--mono);border:1px solid var(--rule);border-bottom-width:2px;border-radius:4px;padding:0 5px;background:var(--\
+paper);}footer{font-size:.85rem;color:var(--soft);margin-top:12px;display:grid;gap:12px;grid-template-columns:\
+repeat(auto-fit,minmax(min(100%,360px),1fr));}footer p{margin:4px 0}footer dl{display:grid;grid-template-colum\
+ns:auto 1fr;gap:3px 12px;margin:4px 0}footer dd{margin:0}.framed header,.framed footer{display:none}.framed bo\
+dy{padding-top:8px}.nocode .grid{display:flex !important;flex-direction:column;align-items:stretch}.nocode #le\
+ft,.nocode #right{display:contents !important}.nocode #time{align-self:auto !important}#vars{display:flex;gap:\
+6px 14px;align-items:baseline;flex-wrap:wrap;padding:7px 12px}#variables{list-style:none;display:flex;flex-wra\
+p:wrap;gap:5px 8px;margin:0;padding:0;flex:1}.variable{border:1px solid var(--rule);border-radius:7px;padding:\
+1px 9px;display:flex;gap:8px;align-items:baseline;font-size:.9rem;flex-wrap:wrap;}.variable .value{font:700 1.\
+05em var(--mono)}.variable .changed{background:var(--hot);box-shadow:inset 3px 0 var(--hotline);padding:0 7px;\
+border-radius:3px;}.variable .name{color:var(--soft)}.line{border:1.5px solid var(--rule);border-radius:8px;pa\
+dding:6px 8px;margin-bottom:8px}.line.hit{border-color:var(--bad);box-shadow:0 0 0 1.5px var(--bad)}.line p{ma\
+rgin:0 0 5px;display:flex;flex-wrap:wrap;gap:3px 8px;align-items:center;font-size:.86rem}#set-body{container-t\
+ype:inline-size}.words{display:grid;grid-template-columns:repeat(4,minmax(0,1fr));gap:3px;font:.75rem var(--mo\
+no)}@container (min-width:640px){.words{grid-template-columns:repeat(8,minmax(0,1fr))}}.word{border:1px solid \
+var(--rule);border-radius:4px;padding:1px 3px 0;min-width:0;overflow:hidden;display:flex;flex-direction:column\
+;}.word .at{font-size:.68rem;color:var(--soft);white-space:nowrap;overflow:hidden;text-overflow:ellipsis;min-h\
+eight:1.2em;}.word.empty .value{color:var(--dim)}.word.changed{background:var(--hot);border-color:var(--hotlin\
+e)}.word.changed .at{color:var(--ink)}.word .private{background:var(--k);color:var(--t);border-radius:3px;padd\
+ing:0 2px;margin-top:1px;white-space:nowrap;}.word .readers{display:flex;gap:2px;margin-top:auto;padding:2px 0\
+}.word .readers i{height:4px;flex:1;background:var(--k)}#list{list-style:none;margin:0;padding:0;font-size:.87\
+rem;max-height:310px;overflow:auto;position:relative;}#list button{all:unset;box-sizing:border-box;display:gri\
+d;grid-template-columns:3.6em auto 1fr;gap:0 8px;width:100%;padding:3px 5px;border-radius:5px;cursor:pointer;b\
+order-left:4px solid transparent;}#list button:hover{background:var(--paper)}#list button:focus-visible{outlin\
+e:3px solid var(--accent)}#list [aria-current]{background:var(--hot);border-left-color:var(--hotline)}#list .b\
+adge{align-self:start}#list .step{font-variant-numeric:tabular-nums;text-align:right;color:var(--soft)}#list [\
+aria-current] .step{color:var(--ink)}#list .cross{color:var(--bad);font-weight:700}#list span{overflow-wrap:an\
+ywhere;min-width:0}@media (prefers-reduced-motion:no-preference){.row,.word,.registers > div{transition:backgr\
+ound-color .15s}}@media print{:root{--paper:#fff}html{font-size:11px}body{max-width:none;padding:0}.bar,header \
+button,.head button,.head select,.head label,footer,#events,#overview{display:none !important}#stage{position:\
+static;box-shadow:none}.told{min-height:0 !important}.grid,.grid > div{display:block !important}.grid > div > \
+*,#time{margin-bottom:10px}#cores{display:grid !important;grid-template-columns:repeat(3,1fr)}.card,.core,.lin\
+e{break-inside:avoid}#source{max-height:none;overflow:visible}.row{white-space:pre-wrap;min-width:0}*{print-co\
+lor-adjust:exact;-webkit-print-color-adjust:exact}}#source{max-height:max(300px,calc(100vh - 250px));overflow:\
+auto;position:relative;font:.86rem/1.55 var(--mono);border-radius:6px;}.row{display:grid;white-space:pre;min-w\
+idth:max-content;border-left:4px solid transparent;tab-size:8;grid-template-columns:minmax(min(var(--marks,4.4\
+em),19vw),max-content) minmax(2.6em,max-content) 1fr;}.row > .marks{text-align:right;padding-right:4px;font-si\
+ze:.94em}.row .number{color:var(--soft);text-align:right;padding-right:9px;user-select:none}.row .comment{colo\
+r:var(--soft)}.row .label{font-weight:700}.row.at{background:color-mix(in srgb,var(--k) 13%,transparent)}.row.\
+at .number,.row.at .comment{color:var(--ink)}.row.did{border-left-color:var(--k)}.row.did .instruction{text-de\
+coration:underline;text-decoration-thickness:2px;text-underline-offset:3px;text-decoration-color:var(--k);}.ba\
+dge.doomed{background:var(--card);color:var(--bad);box-shadow:inset 0 0 0 2px var(--bad)}.badge.back{backgroun\
+d:none;color:var(--ink);box-shadow:inset 0 0 0 2px var(--k,var(--soft))}.badge.off{background:var(--card);colo\
+r:var(--soft);box-shadow:inset 0 0 0 2px var(--soft)}@media (max-width:859px){#source{max-height:46vh}}#stage{\
+position:sticky;top:0;z-index:5;padding:0;margin-bottom:12px;box-shadow:0 3px 12px #0002;overflow:hidden;}.tol\
+d{display:flex;border-left:9px solid var(--k,var(--rule));padding:9px 14px;gap:14px;align-items:flex-start;min\
+-height:5.9rem;}.noted .told{min-height:8rem}.told > div + div{min-width:0;flex:1}#count{font:700 1.5rem/1.1 v\
+ar(--sans);font-variant-numeric:tabular-nums;min-width:3.4em;white-space:nowrap;}#count small{display:block;fo\
+nt-size:.72rem;font-weight:400;color:var(--soft)}#say{margin:0;font-size:1.05rem;overflow-wrap:anywhere}#say c\
+ode{background:var(--paper);border:1px solid var(--rule);border-radius:4px;padding:0 4px;font-size:.95em;}.doo\
+mline{display:block;color:var(--bad);font-weight:650;margin-top:2px}.why{display:block;font-size:.87rem;color:\
+var(--soft);margin-top:1px}#note{margin:7px 0 1px;padding:6px 11px;background:var(--note);border-left:4px soli\
+d var(--hotline);border-radius:4px;font-size:1.05rem;white-space:pre-wrap;overflow-wrap:anywhere;}.bar{display\
+:flex;gap:6px;align-items:center;flex-wrap:wrap;padding:6px 12px 8px;border-top:1px solid var(--rule);}.bar bu\
+tton{display:inline-flex;align-items:center;justify-content:center;gap:4px;min-width:38px}.bar svg{width:16px;\
+height:16px;fill:currentColor;flex:none}#slide{flex:1 1 180px;min-width:110px;accent-color:var(--accent);heigh\
+t:26px}#go{width:5.4em}#play{background:var(--ink);color:var(--paper);border-color:var(--ink);min-width:76px}@\
+media (max-width:859px){#stage{position:static}.bar{position:fixed;bottom:0;left:0;right:0;background:var(--ca\
+rd);z-index:9;box-shadow:0 -3px 12px #0002;justify-content:center;padding:5px 8px;gap:4px;}.bar button{min-wid\
+th:36px;padding:3px 6px}.bar .opt{display:none}.told,.noted .told{min-height:0;padding:7px 10px;gap:9px}#say{f\
+ont-size:.95rem}#count{font-size:1.15rem;min-width:2.6em}}#timeline{display:block;width:100%;touch-action:pan-\
+y;cursor:pointer;user-select:none}#overview{display:block;width:100%;margin-top:6px;border-radius:5px;cursor:p\
+ointer;touch-action:none}.lines text{font:12px var(--mono);fill:var(--ink)}.lines .tick{fill:var(--soft);font-\
+size:11px;text-anchor:middle}.lines .mid{text-anchor:middle}.lines .lab{font-weight:700}.lines .grid{stroke:va\
+r(--rule)}.lines .out{fill:var(--cell)}.lines .in{fill:var(--k)}.lines .wait{fill:var(--k);fill-opacity:.2;str\
+oke:var(--k);stroke-width:1.6}.lines .other{stroke-dasharray:5 3}.lines .open{stroke-dasharray:1.5 3}.lines .d\
+oomed{fill:url(#hatch);stroke:var(--bad);stroke-width:2}.lines .hatch-line{stroke:var(--bad);stroke-width:2.6}\
+.lines .hatch-base{fill:var(--badsoft)}.lines text.on{fill:var(--t)}.lines .abort{fill:var(--card);stroke:var(\
+--bad);stroke-width:2}.lines .abort-other{fill:var(--card);stroke:var(--k);stroke-width:2}.lines .abort-outsid\
+e{fill:var(--card);stroke:var(--ink);stroke-width:2;stroke-dasharray:3 2}.lines text.abort-text{fill:var(--bad\
+);font-weight:700}.lines text.outside-text{fill:var(--ink);font-weight:700}.lines .stop{fill:var(--ink)}.lines \
+text.stop-text{fill:var(--paper)}.lines .arrow{stroke:var(--bad);stroke-width:2.4;fill:none;marker-end:url(#ti\
+p)}.lines .halo{stroke:var(--card);stroke-width:6;fill:none}.lines .origin,.lines .tip{fill:var(--bad)}.lines \
+.arrow-label{fill:var(--bad);font-weight:700;font-size:11.5px;stroke:var(--card);stroke-width:4px;paint-order:\
+stroke;}.lines .segment{fill:none;stroke:var(--soft)}.lines .future{fill:var(--card);pointer-events:none}.line\
+s .cursor{fill:none;stroke:var(--ink);stroke-width:2.2;pointer-events:none}.lines .flag{fill:var(--ink);pointe\
+r-events:none}.lines text.flag-text{fill:var(--paper);font-weight:700;text-anchor:middle;pointer-events:none}.\
+lines .later-dim{opacity:.4}.lines .later-hide{display:none}.lines .note-mark{fill:var(--hotline)}.legend{disp\
+lay:flex;flex-wrap:wrap;gap:3px 13px;font-size:.8rem;color:var(--soft);margin-top:6px;align-items:center;}.leg\
+end svg{height:16px;vertical-align:-3px;margin-right:5px}</style>\n\
 </head>\n\
 <body>\n\
 <header>\n\
@@ -386,10 +386,12 @@ const made = {\n\
 registers: registers.slice(), state: (run.states || [])[core] || 'run',\n\
 base: null, begun: 0, doom: null, lost: null,\n\
 reads: new Map(), writes: new Map(), loads: new Set(), stored: new Map(),\n\
+pending: (run.pending || {})[core] || [],\n\
 };\n\
 const open = (run.open || {})[core];\n\
 return open ? openedBefore(made, open) : made;\n\
 }\n\
+const isBuffered = Boolean(run.pending) || run.steps.some(([, , , more]) => more && more.s);\n\
 function openedBefore(core, open) {\n\
 core.base = open.b;\n\
 for (const line of open.r || []) core.reads.set(line, 0);\n\
@@ -462,21 +464,31 @@ if (kind === 'i') eachPair(more.l, (address, count) => noteLoad(core, address, c
 eachPair(more.t, (address, digits) => bytesOf(digits).forEach((byte, i) => core.stored.set(address + i, byte))\
 );\n\
 eachPair(more.m, (address, digits) => store(state, address, digits));\n\
+if (kind === 'd') core.pending = core.pending.slice(1);\n\
+if (more.s) core.pending = [...core.pending, more.s];\n\
 if (kind === 'c') {\n\
 core.base = null;\n\
 close(core);\n\
 }\n\
 for (const [victim, line, isWrite] of more.d || []) doom(state.cores[victim], step, number, line, isWrite);\n\
 }\n\
-const byteAt = (state, address, core) => core && core.stored.has(address)\n\
-? core.stored.get(address) : (state.memory.get(address >>> 6) || zeroLine)[address & 63];\n\
+const pendingAt = (core, address) => (core.pending || []).findLast(\n\
+([first, count]) => address >= first && address < first + count);\n\
+function byteAt(state, address, core) {\n\
+if (core && core.stored.has(address)) return core.stored.get(address);\n\
+const store = core && pendingAt(core, address);\n\
+if (store) return store[2] >>> 8 * (address - store[0]) & 255;\n\
+return (state.memory.get(address >>> 6) || zeroLine)[address & 63];\n\
+}\n\
 function wordAt(state, address, core, count = 4) {\n\
 let value = 0;\n\
 for (let i = count - 1; i >= 0; i--) value = value * 256 + byteAt(state, address + i, core);\n\
 return value;\n\
 }\n\
 const offsets = [0, 1, 2, 3];\n\
-const hasStored = (core, address) => offsets.some(i => core.stored.has(address + i));\n\
+const hasPrivate = (core, address) => offsets.some(i => core.stored.has(address + i));\n\
+const hasStored = (core, address) =>\n\
+hasPrivate(core, address) || offsets.some(i => pendingAt(core, address + i));\n\
 const frames = [], transactions = [], events = [], dooms = [];\n\
 const addresses = new Uint32Array(stepCount + 1); // of the instruction that a step ran\n\
 const values = run.show.map(() => []), transactionsOf = run.opening.map(() => []);\n\
@@ -581,11 +593,11 @@ return [isNext ? 'does not jump' : `goes on at ${place(registers[EIP])}`];\n\
 return /^(cmp|test|xtest|bt )/.test(text) ? [`zero flag ${registers[FLAGS] & 64 ? 'set' : 'clear'}`] : [];\n\
 }\n\
 function actions(step) {\n\
-const [core, kind, , more = {}] = run.steps[step - 1], did = [];\n\
-const sees = kind === 'i' ? view.before.cores[core] : null;\n\
+const [core, kind, , more = {}] = run.steps[step - 1], did = [], sees = view.before.cores[core];\n\
 eachPair(more.l, (address, count) =>\n\
 did.push(`loads ${spot(address)} = ${numberText(wordAt(view.before, address, sees, count))}`));\n\
 eachPair(more.t || more.m, (address, digits) => did.push(`stores ${storedText(digits)} to ${spot(address)}`));\n\
+if (more.s) did.push(`stores ${numberText(more.s[2])} to ${spot(more.s[0])}`);\n\
 if (kind !== 'p' && kind !== 'i') return did.join(', ');\n\
 const text = printed(addresses[step]);\n\
 return [...did, ...registerChanges(core, text), ...flowOf(core, step, text)].join(', ');\n\
@@ -628,10 +640,15 @@ return [from ? ` aborts: ${from}. ` : ' aborts. ',\n\
 }\n\
 function plainWords(core, step) {\n\
 const did = actions(step), half = view.before.cores[core].state === 'mid' ? ' second half of ' : ' ';\n\
-return [half, code(step), did ? `: ${did}.` : '.'];\n\
+const pends = moreOf(step).s ? ' (the store is pending: no other core sees it yet)' : '';\n\
+return [half, code(step), did ? `: ${did}${pends}.` : '.'];\n\
+}\n\
+function drainWords(core) {\n\
+const [address, , value] = view.before.cores[core].pending[0];\n\
+return [' drains: its oldest pending store reaches memory, ', `${numberText(value)} to ${spot(address)}.`];\n\
 }\n\
 const wordsOf = {\n\
-b: beginWords, i: insideWords, c: commitWords, a: abortWords, e: abortWords, p: plainWords,\n\
+b: beginWords, i: insideWords, c: commitWords, a: abortWords, e: abortWords, p: plainWords, d: drainWords,\n\
 l: (core, step) => [' first half of ', code(step), `: ${actions(step)}. Another core may step before it stores\
 .`],\n\
 s: (core, step) => [' stops: ', code(step), `, ${stopText(view.state.cores[core])}.`],\n\
@@ -741,8 +758,9 @@ const gapOfCells = () => scale.cell > 8 ? 1.5 : scale.cell > 4 ? .5 : 0;\n\
 const beginnings = { p: '', l: 'first half: ', i: 'inside: ', b: 'begins: ', c: 'commits: ', s: 'stops: ' };\n\
 function cellTitle(step) {\n\
 const [core, kind] = run.steps[step - 1];\n\
-const did = isAbort(kind) ? 'aborts' : kind === 'z' ? 'has stopped' : beginnings[kind] + written(addresses[ste\
-p]);\n\
+const alone = { a: 'aborts', e: 'aborts', z: 'has stopped', d: 'its oldest pending store reaches memory' }[kin\
+d];\n\
+const did = alone || beginnings[kind] + written(addresses[step]);\n\
 return `step ${numberOf(step)}: core ${core}, ${did}${reasonOf(step) ? ': ' + reasonOf(step) : ''}`;\n\
 }\n\
 const isConflict = step => kindOf(step) === 'a' && /^conflict/.test(reasonOf(step));\n\
@@ -766,6 +784,7 @@ if (kind === 'e') return width >= 74 ? '\\u2717 ' + moreOf(step).e : width >= 11
 if (kind === 'a') return isLong() ? '\\u2717 abort' : width >= 11 ? '\\u2717' : '';\n\
 if (kind === 'c') return width >= 66 ? '\\u2713 commit' : width >= 11 ? '\\u2713' : '';\n\
 if (kind === 's') return stopLabel(step);\n\
+if (kind === 'd') return isLong() ? '\\u2193 drain' : width >= 11 ? '\\u2193' : '';\n\
 if (isLong() && kind !== 'z') return fitting(written(addresses[step]), width);\n\
 return kind === 'b' && width >= 15 ? '(' : '';\n\
 }\n\
@@ -1047,7 +1066,7 @@ let target = wanted.keys().next().value;\n\
 if (view.step) {\n\
 const [number, kind] = run.steps[view.step - 1], colour = colourOf(number);\n\
 const next = addClass(wanted, view.state.cores[number].registers[EIP], 'at ' + colour);\n\
-const did = isAbort(kind) ? null : addClass(wanted, addresses[view.step], 'did ' + colour);\n\
+const did = isAbort(kind) || kind === 'd' ? null : addClass(wanted, addresses[view.step], 'did ' + colour);\n\
 target = did || next || target;\n\
 }\n\
 for (const found of marked.keys()) if (!wanted.has(found)) showRow(found, nothing);\n\
@@ -1153,13 +1172,19 @@ const at = core.registers[EIP];\n\
 return element('p', 'next', element('small', '', 'next: '), written(at), element('small', '', '  ' + nameNear(\
 at)));\n\
 }\n\
+function pendingLine([address, count, value]) {\n\
+const line = element('p', 'pending', `pending ${hex(address)} ${hex(value, 2 * count)}`);\n\
+return titled(line, `${numberText(value)} to ${spot(address)}: no other core sees it yet`);\n\
+}\n\
+const pendingLines = core =>\n\
+core.pending.map((store, index) => [[index, isHexShown, ...store].join(), () => pendingLine(store)]);\n\
 const setText = set => [...set.keys()].sort((a, b) => a - b).map(line => line.toString(16)).join(' ') || '-';\n\
 const cards = [];\n\
 function coreCard(number) {\n\
 const state = element('span', 'state'), next = element('div'), registers = element('dl', 'registers');\n\
-const sets = element('div'), body = element('div', 'body', registers, sets);\n\
-const card = element('article', '', element('h3', '', badge(number), 'core ' + number, state), next, body);\n\
-return { card, state, next, registers, sets };\n\
+const pending = element('div'), sets = element('div'), body = element('div', 'body', registers, sets);\n\
+const head = element('h3', '', badge(number), 'core ' + number, state);\n\
+return { card: element('article', '', head, next, pending, body), state, next, pending, registers, sets };\n\
 }\n\
 function showRegisters(box, core, old) {\n\
 refill(box, registerNames.map((name, register) => {\n\
@@ -1169,10 +1194,11 @@ return [[name, ...values, back].join('|'), () => registerRow(core, old, register
 }\n\
 function showCore(core, number) {\n\
 const didStep = view.step && run.steps[view.step - 1][0] === number, old = view.before.cores[number];\n\
-const { card, state, next, registers, sets } = cards[number];\n\
+const { card, state, next, pending, registers, sets } = cards[number];\n\
 setClass(card, `card core ${colourOf(number)} ${didStep ? 'did' : ''}`);\n\
 refill(state, [[[core.state, core.begun, core.doom && core.doom.step].join(), () => statePill(core)]]);\n\
 refill(next, [[[core.state, core.registers[EIP]].join(), () => nextLine(core)]]);\n\
+refill(pending, pendingLines(core));\n\
 showRegisters(registers, core, old);\n\
 refill(sets, isFew || isOpen(core) || isDoomed(core) ? [[setKey(core), () => setList(core)]] : []);\n\
 const reads = setText(core.reads), writes = setText(core.writes);\n\
@@ -1222,7 +1248,7 @@ uses.get(line).set(number, (uses.get(line).get(number) || 0) | bit);\n\
 }\n\
 }\n\
 });\n\
-for (const list of [more.l, more.t, more.m]) {\n\
+for (const list of [more.l, more.t, more.m, more.s && more.s.slice(0, 2)]) {\n\
 eachPair(list, address => {\n\
 if (!uses.has(address >>> 6) && !isInCode(address)) uses.set(address >>> 6, new Map());\n\
 });\n\
@@ -1261,14 +1287,16 @@ view.state.cores.forEach((core, number) => {\n\
 const parts = partsShown(core);\n\
 if (!parts) return;\n\
 if (offsets.some(i => parts.loads.has(address + i))) readers.push(number);\n\
-if (hasStored(parts, address)) own.push([number, wordAt(view.state, address, parts)]);\n\
+if (!hasStored(parts, address)) return;\n\
+own.push([number, wordAt(view.state, address, parts), hasPrivate(parts, address) ? 'private to' : 'pending of'\
+]);\n\
 });\n\
 return { address, value, isChanged, readers, own };\n\
 }\n\
-function privateWord([core, value]) {\n\
+function privateWord([core, value, whose]) {\n\
 const seen = element('span', `private ${colourOf(core)}`, hex(value));\n\
 seen.dataset.core = core;\n\
-return titled(seen, `private to core ${core}`);\n\
+return titled(seen, `${whose} core ${core}`);\n\
 }\n\
 function wordCell({ address, value, isChanged, readers, own }) {\n\
 const name = wordNames.get(address) || '';\n\
@@ -1304,7 +1332,7 @@ showWords(now.get('words'), line, writtenWords);\n\
 const mostLines = 10;\n\
 const legendOfLines = 'A stripe below a word: loaded by the core of that colour. A filled value: stored, priva\
 te until '\n\
-+ 'XEND. R, W: in the read set, in the write set.';\n\
++ `XEND${isBuffered ? ', or pending' : ''}. R, W: in the read set, in the write set.`;\n\
 function showLines() {\n\
 const more = view.step ? moreOf(view.step) : {}, uses = lineUses(more), writtenWords = wordsWritten(more.m);\n\
 const hitsOf = line => (more.d || []).filter(hit => hit[1] === line), isHit = line => Number(hitsOf(line).leng\

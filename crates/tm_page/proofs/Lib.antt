@@ -4,6 +4,10 @@ mod Rows
 mod Moved
 mod Others
 mod Memory
+mod Stepped
+mod StepOthers
+mod StepOwn
+mod StepDrain
 pub mod Step
 mod Run
 mod Lists

@@ -1,20 +1,20 @@
 -- What the page makes of memory.
-use Rattle.std.proofs.Common.{◌≡◌, ℕ, zero, suc, ◌+◌, ◌-◌, ◌<◌, ◌%◌, Bool, true, false, cond, eqb, ◌||◌, List, [], ◌∷◌}
+use Rattle.std.proofs.Common.{◌≡◌, ℕ, zero, suc, ◌-◌, ◌%◌, Bool, true, false, cond, eqb, ◌||◌, List, [], ◌∷◌}
 use Rattle.std.proofs.Common.{◌++◌, get_or, set, Option, Some, None, refl, sym, ap, ◌∙◌, subst}
-use Rattle.std.specs.Prelude.{option_and_then, option_map, slice_index, unwrap_or}
-use Rattle.std.proofs.lemmas.Bool.{cases_eq, eq-eqb, both_ways}
+use Rattle.std.specs.Prelude.{option_and_then, option_map}
+use Rattle.std.proofs.lemmas.Bool.{eq-eqb, both_ways}
 use Rattle.std.proofs.lemmas.List.{get_or-set_other}
 use Rattle.std.proofs.lemmas.Option.{option_and_then_some, same_Some}
 use Rattle.std.specs.FinMap as map_of
-use Rattle.tm_model.specs.Access.{Stores, memory_after, stored_addresses, stores_of}
+use Rattle.tm_model.specs.Access.{Stores, memory_after, stored_addresses}
 use Rattle.tm_model.specs.Conflicts.{addresses_stored_by, addresses_stored_inside}
 use Rattle.tm_model.specs.Explained.{addresses_stored_at}
 use Rattle.tm_model.specs.Isolated.{Body, instruction_after, isolated_body, longer_body, next_body}
-use Rattle.tm_model.specs.Owed.{abort_at, owed_after, owed_inside, owed_outcome, owed_with_room}
+use Rattle.tm_model.specs.Owed.{abort_at, owed_after, owed_inside}
 use Rattle.tm_model.specs.Setting.{Setting}
-use Rattle.tm_model.specs.Shown.{View, buffer_of, view_inside, view_of, view_of_body}
+use Rattle.tm_model.specs.Shown.{View, view_inside}
 use Rattle.tm_model.specs.State.{Closed, Core, Halted, Midway, Opened}
-use Rattle.tm_core.specs.Types.{Capacity, Committed, Ends, Fails, Goes, GoesOn, Inside, InsideResult, Nests, Outcome}
+use Rattle.tm_core.specs.Types.{Capacity, Committed, Ends, Fails, GoesOn, Inside, InsideResult, Nests}
 use Rattle.tm_core.specs.Types.{Plain, Regs}
 use Rattle.tm_core.proofs.Frame.{longer_body-next_body}
 use Rattle.tm_core.proofs.OtherCores.{view_inside_is}

@@ -1,43 +1,62 @@
--- What the page makes of a core that another one's step hits, or does not.
-use Rattle.std.proofs.Common.{◌≡◌, ℕ, ◌<◌, Bool, true, false, cond, eqb, List, length, Option, Some, None, refl, sym}
+-- What the page makes of a core that another one's step hits, or does not, on memory as that core sees it.
+use Rattle.std.proofs.Common.{◌≡◌, ℕ, Bool, true, false, cond, List, length, Option, Some, None, refl, sym}
 use Rattle.std.proofs.Common.{ap, ◌∙◌, subst}
 use Rattle.std.specs.Prelude.{IsSome, MatchOption, option_and_then}
 use Rattle.std.proofs.lemmas.Option.{option_and_then_some, same_Some}
-use Rattle.tm_model.specs.Access.{Stores, memory_after, stored_addresses}
 use Rattle.tm_model.specs.Conflicts.{depth_at_hit, doom_after_other, is_hit}
 use Rattle.tm_model.specs.Isolated.{Body, isolated_body, read_set}
 use Rattle.tm_model.specs.Setting.{Setting}
 use Rattle.tm_model.specs.Shown.{View, view_inside, view_of, view_of_body, view_outside}
 use Rattle.tm_model.specs.State.{Closed, Core, Halted, Midway, Opened}
 use Rattle.tm_core.specs.Types.{Condemned, Open, Regs}
-use Rattle.tm_core.proofs.BufferLemmas.{lines_on, not_hit}
-use Rattle.tm_core.proofs.Frame.{frame, length-memory_after}
-use Rattle.tm_core.proofs.OtherCores.{stores_missed, view_inside_is}
+use Rattle.tm_core.proofs.BufferLemmas.{lines_on}
+use Rattle.tm_core.proofs.Frame.{frame}
+use Rattle.tm_core.proofs.OtherCores.{Agree, stores_missed, view_inside_is}
 use Rattle.tm_page.proofs.Own.{IsOutside, shows_outside}
-use Rattle.tm_page.specs.Applied.{PageCore, condemned, core_outside, other_after}
+use Rattle.tm_page.specs.Applied.{PageCore, condemned, other_after}
 use Rattle.tm_page.specs.Shows.{ShowsCore}
 use Rattle.tm_page.specs.Types.{Hit}
 
-module _ (k : Setting) (m : List ℕ) (loads : List ℕ) (ws : Stores) where
-  abbrev after : List ℕ
-  after = memory_after m ws
+pub record IsCondemned (v w : View) : Type 0 where
+  pub depth : ℕ
+  pub was : v.mode ≡ Open depth
+  pub mode : w.mode ≡ Condemned depth
+  pub base : w.base ≡ v.base
+  pub outside : IsOutside w
 
+abbrev pub Tells : Option Hit → Option ℕ → Option ℕ → Type 0
+Tells told before then = MatchOption told (then ≡ before) (λ hit. (before ≡ None) × IsSome then)
+
+abbrev pub Fares : Option Hit → View → View → Type 0
+Fares told v w = MatchOption told (w ≡ v) (λ hit. IsCondemned v w)
+
+pub other : (size : ℕ) (told : Option Hit) (core : PageCore) (v w : View) → Fares told v w → ShowsCore size v core
+    → ShowsCore size w (other_after told core)
+other size None core v w h shows = subst (λ x. ShowsCore size x core) (sym h) shows
+other size (Some hit) core v w h shows =
+    shows_outside size w (condemned core.mode) core.base h.outside
+    (ap condemned (sym shows.mode ∙ h.was) ∙ sym h.mode)
+    (sym shows.base ∙ sym h.base ∙ h.outside.base)
+
+-- these addresses were loaded, and these written in memory, which the core sees before as m
+module _ (k : Setting) (m after : List ℕ) (loads stores : List ℕ) (len : length m ≡ length after)
+    (agree : Agree m after stores) where
   abbrev doom_of : Core → Option ℕ → Option ℕ
-  doom_of y dy = doom_after_other k m loads (stored_addresses ws) y dy
+  doom_of y dy = doom_after_other k m loads stores y dy
 
   -- ---- one that is not hit
 
   body_stays : (s : Regs) (n : ℕ) (b : Body) → isolated_body k s m n ≡ Some b
-      → depth_at_hit loads (stored_addresses ws) (isolated_body k s m n) ≡ None →
+      → depth_at_hit loads stores (isolated_body k s m n) ≡ None →
       isolated_body k s after n ≡ Some b
   body_stays s n b is h =
-      on (is_hit loads (stored_addresses ws) b) refl (sym (ap (depth_at_hit loads (stored_addresses ws)) is) ∙ h)
+      on (is_hit loads stores b) refl (sym (ap (depth_at_hit loads stores) is) ∙ h)
     where
-      on : (t : Bool) → is_hit loads (stored_addresses ws) b ≡ t → cond t (Some b.depth) None ≡ None
+      on : (t : Bool) → is_hit loads stores b ≡ t → cond t (Some b.depth) None ≡ None
           → isolated_body k s after n ≡ Some b
       on true hit e = cc
-      on false missed e = frame k s m after n b (sym (length-memory_after m ws))
-          (not_hit m (read_set b) b.loads ws (lines_on b.loads) (stores_missed loads (stored_addresses ws) b missed)) is
+      on false missed e = frame k s m after n b len
+          (agree (read_set b) b.loads (lines_on b.loads) (stores_missed loads stores b missed)) is
 
   pub stays : (y : Core) (dy : Option ℕ) (v w : View) → view_of k m y dy ≡ Some v
       → view_of k after y (doom_of y dy) ≡ Some w → doom_of y dy ≡ dy → w ≡ v
@@ -56,20 +75,13 @@ module _ (k : Setting) (m : List ℕ) (loads : List ℕ) (ws : Stores) where
 
   -- ---- one that is
 
-  pub record IsCondemned (v w : View) : Type 0 where
-    pub depth : ℕ
-    pub was : v.mode ≡ Open depth
-    pub mode : w.mode ≡ Condemned depth
-    pub base : w.base ≡ v.base
-    pub outside : IsOutside w
-
   struck : (s : Regs) (n : ℕ) (b : Body) (v w : View) → view_of_body s b ≡ v → isolated_body k s m n ≡ Some b →
-      IsSome (depth_at_hit loads (stored_addresses ws) (isolated_body k s m n)) →
-      view_of k after (Opened s n) (depth_at_hit loads (stored_addresses ws) (isolated_body k s m n)) ≡ Some w
+      IsSome (depth_at_hit loads stores (isolated_body k s m n)) →
+      view_of k after (Opened s n) (depth_at_hit loads stores (isolated_body k s m n)) ≡ Some w
       → IsCondemned v w
-  struck s n b v w shown is h f = on (is_hit loads (stored_addresses ws) b)
-      (subst (λ o. IsSome (depth_at_hit loads (stored_addresses ws) o)) is h)
-      (subst (λ o. view_of k after (Opened s n) (depth_at_hit loads (stored_addresses ws) o) ≡ Some w) is f)
+  struck s n b v w shown is h f = on (is_hit loads stores b)
+      (subst (λ o. IsSome (depth_at_hit loads stores o)) is h)
+      (subst (λ o. view_of k after (Opened s n) (depth_at_hit loads stores o) ≡ Some w) is f)
     where
       on : (t : Bool) → IsSome (cond t (Some b.depth) None)
           → view_of k after (Opened s n) (cond t (Some b.depth) None) ≡ Some w → IsCondemned v w
@@ -100,22 +112,8 @@ module _ (k : Setting) (m : List ℕ) (loads : List ℕ) (ws : Stores) where
 
   -- ---- either
 
-  abbrev pub Tells : Option Hit → Option ℕ → Option ℕ → Type 0
-  Tells told dy then = MatchOption told (then ≡ dy) (λ hit. (dy ≡ None) × IsSome then)
-
-  abbrev pub Fares : Option Hit → View → View → Type 0
-  Fares told v w = MatchOption told (w ≡ v) (λ hit. IsCondemned v w)
-
   pub fares : (told : Option Hit) (y : Core) (dy : Option ℕ) (v w : View) → view_of k m y dy ≡ Some v
       → view_of k after y (doom_of y dy) ≡ Some w →
       Tells told dy (doom_of y dy) → Fares told v w
   fares None y dy v w e f h = stays y dy v w e f h
   fares (Some hit) y dy v w e f h = condemns y dy v w e f h.0 h.1
-
-  pub other : (size : ℕ) (told : Option Hit) (core : PageCore) (v w : View) → Fares told v w → ShowsCore size v core
-      → ShowsCore size w (other_after told core)
-  other size None core v w h shows = subst (λ x. ShowsCore size x core) (sym h) shows
-  other size (Some hit) core v w h shows =
-      shows_outside size w (condemned core.mode) core.base h.outside
-      (ap condemned (sym shows.mode ∙ h.was) ∙ sym h.mode)
-      (sym shows.base ∙ sym h.base ∙ h.outside.base)

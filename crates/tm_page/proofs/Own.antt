@@ -1,7 +1,7 @@
 -- What the page makes of the core that steps.
-use Rattle.std.proofs.Common.{◌≡◌, ℕ, zero, suc, ◌+◌, ◌-◌, ◌<◌, ◌%◌, Bool, true, false, cond, eqb, ◌||◌, ◌&&◌, not}
-use Rattle.std.proofs.Common.{List, [], ◌∷◌, ◌++◌, Option, Some, None, refl, sym, ap, ◌∙◌, subst}
-use Rattle.std.specs.Prelude.{option_and_then, option_map, slice_index, unwrap_or}
+use Rattle.std.proofs.Common.{◌≡◌, ℕ, zero, suc, ◌+◌, ◌-◌, ◌%◌, Bool, true, false, cond}
+use Rattle.std.proofs.Common.{List, [], ◌++◌, Option, Some, None, refl, sym, ap, ◌∙◌, subst}
+use Rattle.std.specs.Prelude.{option_and_then, option_map, unwrap_or}
 use Rattle.std.proofs.lemmas.Option.{option_and_then_some, same_Some}
 use Rattle.std.specs.Option.{option_or}
 use Rattle.std.specs.Ordering.{nat_cmp}
@@ -10,17 +10,17 @@ use Rattle.std.specs.FinSet as set
 use Rattle.tm_model.specs.Access.{Stores, lines_of, stored_addresses, stores_of}
 use Rattle.tm_model.specs.Explained.{addresses_stored_next}
 use Rattle.tm_model.specs.Isolated.{Body, first_body, instruction_after, isolated_body, longer_body, next_body}
-use Rattle.tm_model.specs.Setting.{Setting, outside_at}
+use Rattle.tm_model.specs.Setting.{Setting}
 use Rattle.tm_model.specs.Shown.{View, buffer_of, view_between, view_inside, view_midway, view_of, view_of_body}
 use Rattle.tm_model.specs.Shown.{view_outside}
-use Rattle.tm_model.specs.State.{Closed, Core, Halted, Midway, Opened}
-use Rattle.tm_core.specs.Types.{AtStop, Begins, Condemned, CoreState, Ends, Fails, Goes, GoesOn, InsideResult, Mid}
+use Rattle.tm_model.specs.State.{Closed, Halted, Midway}
+use Rattle.tm_core.specs.Types.{AtStop, Begins, CoreState, Ends, Fails, Goes, GoesOn, InsideResult}
 use Rattle.tm_core.specs.Types.{Nests, OutsideResult, Regs, Running, Stop, Stops}
 use Rattle.tm_core.proofs.Frame.{longer_body-next_body}
 use Rattle.tm_core.proofs.OtherCores.{view_inside_is}
-use Rattle.tm_page.proofs.Parts.{append-stored, apart, first_joined, grown, has_byte, joined}
-use Rattle.tm_page.specs.Applied.{PageCore, core_outside, is_listed}
-use Rattle.tm_page.specs.Shows.{ShowsCore, private_byte}
+use Rattle.tm_page.proofs.Parts.{append-stored, apart, has_byte}
+use Rattle.tm_page.specs.Applied.{core_outside, is_listed}
+use Rattle.tm_page.specs.Shows.{ShowsCore}
 
 -- ---- outside of transactions
 

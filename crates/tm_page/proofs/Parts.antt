@@ -1,16 +1,12 @@
 -- Lists of lines and of bytes.
-use Rattle.std.proofs.Common.{◌≡◌, ℕ, ◌%◌, Bool, true, false, cond, eqb, ◌||◌, ◌&&◌, not, List, [], ◌∷◌, ◌++◌, map}
+use Rattle.std.proofs.Common.{◌≡◌, ℕ, Bool, true, false, cond, eqb, ◌||◌, ◌&&◌, not, List, [], ◌∷◌, ◌++◌}
 use Rattle.std.proofs.Common.{Option, Some, None, refl, sym, ap, ◌∙◌}
-use Rattle.std.specs.Prelude.{option_map}
-use Rattle.std.specs.List.{list_any}
-use Rattle.std.specs.Option.{option_or}
-use Rattle.std.specs.Ordering.{nat_cmp}
 use Rattle.std.specs.FinMap as map_of
 use Rattle.std.specs.FinSet as set
 use Rattle.ia_word.specs.Line.{line}
 use Rattle.tm_model.specs.Access.{Stores, lines_of, stored_addresses}
 use Rattle.tm_model.specs.Shown.{buffer_of}
-use Rattle.tm_core.proofs.BufferLemmas.{contains-insert, get-put, or_assoc}
+use Rattle.tm_core.proofs.BufferLemmas.{contains-insert, get-put}
 use Rattle.tm_page.specs.Applied.{is_listed}
 
 -- ---- sets that grow

@@ -1,6 +1,6 @@
 -- The row of registers that changed.
 use Rattle.std.proofs.Common.{◌≡◌, ℕ, zero, suc, ◌<◌, ◌+◌, List, [], ◌∷◌, length, get_or, set, replicate, Option, None}
-use Rattle.std.proofs.Common.{sym, ap, ◌∙◌, arith, unwrap_or, refl}
+use Rattle.std.proofs.Common.{ap, ◌∙◌, arith, unwrap_or, refl}
 use Rattle.std.proofs.lemmas.List.{get_or-set_same, get_or-set_other}
 use Rattle.tm_page.specs.Applied.{patched_list}
 use borrow.Author.Count.{below_more}

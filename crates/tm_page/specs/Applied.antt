@@ -1,11 +1,13 @@
 -- What a reader of the page does with a step's delta: the script's `apply`, in words (docs/FORMATS.md, "Pages").
-use Rattle.std.specs.Prelude.{ℕ, Bool, false, ◌||◌, if◌then◌else◌, List, [], ◌∷◌, Option, Some, None, nat_eq, unwrap_or}
-use Rattle.std.specs.Prelude.{slice_index_or}
+use Rattle.std.specs.Prelude.{ℕ, Bool, false, ◌||◌, if◌then◌else◌, List, [], ◌∷◌, ◌++◌, drop, Option, Some, None}
+use Rattle.std.specs.Prelude.{nat_eq, slice_index_or, unwrap_or}
 use Rattle.std.specs.List.{list_any}
 use Rattle.std.specs.Option.{option_or}
+use Rattle.tm_model.specs.State.{Pending}
+use Rattle.tm_why.specs.Watched.{is_drain}
 use Rattle.tm_page.specs.Types.{Aborted, AbortedBy, Begun, Changes, Committed, Condemned, CoreState, AtStop, Drained}
 use Rattle.tm_page.specs.Types.{Hit, Idle, Inside, Loaded, Mid, Open, Outcome, PageDelta, Plain, Regs, Running, Stopped}
-use Rattle.tm_page.specs.Types.{StoredByte}
+use Rattle.tm_page.specs.Types.{Store, StoredByte}
 
 -- what the page has of a core
 pub record PageCore : Type 0 where
@@ -17,8 +19,9 @@ pub record PageCore : Type 0 where
   pub private : ℕ → Option ℕ  -- by its address, a byte that its transaction keeps for itself
 
 pub record Page : Type 0 where
-  pub memory : ℕ → ℕ
+  pub memory : ℕ → ℕ  -- itself, and not as a core sees it
   pub cores : ℕ → PageCore
+  pub pending : ℕ → Pending  -- of each core, its stores that are not in memory yet, the oldest first
 
 -- ---- the parts of a delta
 
@@ -101,7 +104,8 @@ abbrev pub other_after : Option Hit → PageCore → PageCore
 other_after None core = core
 other_after (Some hit) core = core_outside (condemned core.mode) core.base
 
--- bytes that are stored inside are private; those of any other step are memory's
+-- bytes that are stored inside are private; those of any other step are memory's, and a step whose store is pending
+-- behind it tells of none
 abbrev pub memory_with : Outcome → List StoredByte → (ℕ → ℕ) → ℕ → ℕ
 memory_with Inside stored memory address = memory address
 memory_with Plain stored memory address = unwrap_or (stored_at stored address) (memory address)
@@ -114,12 +118,24 @@ memory_with (Aborted status) stored memory address = unwrap_or (stored_at stored
 memory_with (AbortedBy by status) stored memory address = unwrap_or (stored_at stored address) (memory address)
 memory_with Drained stored memory address = unwrap_or (stored_at stored address) (memory address)
 
+-- a store that is pending now stands behind the others
+abbrev pub pending_with : Option Store → Pending → Pending
+pending_with None pending = pending
+pending_with (Some store) pending = pending ++ store ∷ []
+
+-- and a drain takes the oldest away
+abbrev pub pending_after : Outcome → Option Store → Pending → Pending
+pending_after outcome store pending = if is_drain outcome then drop 1 pending else pending_with store pending
+
 abbrev pub applied : PageDelta → Page → Page
 applied delta page = record {
   memory = memory_with delta.outcome delta.stored.items page.memory;
   cores = λ core. if nat_eq core delta.core
       then own_after delta.outcome delta (page.cores core)
       else other_after (hit_on delta core) (page.cores core);
+  pending = λ core. if nat_eq core delta.core
+      then pending_after delta.outcome delta.pending (page.pending core)
+      else page.pending core;
 }
 
 -- the first delta first

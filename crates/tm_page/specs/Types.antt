@@ -2,7 +2,7 @@
 pub use Rattle.tm_page.specs.declared.delta.Changes.{Changes}
 pub use Rattle.tm_page.specs.declared.delta.PageDelta.{PageDelta}
 pub use Rattle.tm_page.specs.declared.delta.StoredByte.{StoredByte}
-pub use Rattle.tm_model.specs.Types.{Regs}
+pub use Rattle.tm_model.specs.Types.{Regs, Store}
 pub use Rattle.tm_model.specs.declared.explain.Hit.{Hit}
 pub use Rattle.tm_model.specs.declared.outcome.CoreState.{CoreState}
 pub use Rattle.tm_model.specs.declared.outcome.CoreState.TheVariants.{Running, Mid, Open, Condemned, Stopped as AtStop}

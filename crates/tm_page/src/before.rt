@@ -1,13 +1,14 @@
 //! What the machine shows of a core before its step, as far as the step may change it.
 //!
-//! [`Before::of`] is called just before the step, and asks for the lines of the sets, which alone need memory, and
-//! for what is said of the step (`tm_why`). The bytes that a transaction keeps for itself are not among it: they
-//! come to `difference` as a list of addresses.
+//! [`Before::of`] is called just before the step, and asks for the lines of the sets, which alone need memory, for
+//! what is said of the step (`tm_why`), and for the stores that are pending. The bytes that a transaction keeps for
+//! itself are not among it: they come to `difference` as a list of addresses.
 
 ghost use Rattle.std.specs.Prelude.{IfOk};
 ghost use Rattle.tm_page.specs.Before.{IsBefore};
 
 use crate::lines::lines_of;
+use ia_exec::Store;
 use ia_regs::Regs;
 use std::alloc::Global;
 use tm_core::{Machine, RunFault};
@@ -28,6 +29,10 @@ pub struct Before {
     pub reads: Vec<u32>,
     /// The lines of its write set.
     pub writes: Vec<u32>,
+    /// How many stores of it are pending.
+    pub pending: usize,
+    /// The oldest of these.
+    pub oldest: Option<Store>,
 }
 
 impl Before {
@@ -41,12 +46,15 @@ impl Before {
         let reads = lines_of(alloc, machine, core, Kind::Read)?;
         let writes = lines_of(alloc, machine, core, Kind::Write)?;
         let asked = Asked::of(machine, core).unwrap();
+        let stores = machine.pending(core).unwrap();
         Ok(Before {
             asked,
             regs: machine.regs(core).unwrap(),
             reach: asked.reach,
             reads,
             writes,
+            pending: stores.len(),
+            oldest: stores.first().copied(),
         })
     }
 }

@@ -1,12 +1,12 @@
 //! Bytes that a step stored, read behind it: memory's, or those that its core sees.
 //!
-//! [`accessed_bytes`] and [`memory_bytes`] are for what all cores see, [`private_bytes`] for a step in a
-//! transaction. An address outside of memory gives no byte. Which of them a step's outcome asks for stands in
-//! `difference`.
+//! [`accessed_bytes`] and [`memory_bytes`] are for what all cores see, [`drained_bytes`] among them for a store that
+//! has just reached memory, and [`private_bytes`] for a step in a transaction. An address outside of memory gives no
+//! byte. Which of them a step's outcome asks for stands in `difference`.
 
 ghost use Rattle.std.specs.Prelude.{◌≡◌, ◌<◌, ℕ, IfOk, OnOk, Some, None, if◌then◌else◌, length, nat_eq, slice_index};
 ghost use Rattle.tm_core.specs.Seen.{byte_seen};
-ghost use Rattle.tm_model.specs.Access.{loaded_addresses};
+ghost use Rattle.tm_model.specs.Access.{loaded_addresses, stored_addresses, stores_of};
 ghost use Rattle.std.specs.Option.{option_or};
 ghost use Rattle.tm_page.specs.Applied.{is_listed, stored_at};
 ghost use Rattle.tm_page.specs.Shows.{IsAddress};
@@ -14,6 +14,7 @@ ghost use Rattle.tm_page.specs.Shows.{IsAddress};
 use crate::delta::StoredByte;
 use arrayvec::ArrayVec;
 use ia_addr::Access;
+use ia_exec::Store;
 use ia_word::Width;
 use std::alloc::{AllocError, Global};
 use tm_core::Machine;
@@ -67,6 +68,32 @@ pub fn accessed_bytes(
 {
     let addresses = addresses_of(access);
     memory_bytes(alloc, memory, addresses.as_slice())
+}
+
+/// The bytes of memory that a store put there, of those that lie in it.
+pub fn drained_bytes(
+    alloc: Global,
+    memory: &[u8],
+    store: Option<Store>,
+) -> Result<Vec<StoredByte>, AllocError>
+    ensures { IfOk result
+        (λ bytes. (address : ℕ) → IsAddress (length memory.now) address → stored_at bytes.items address
+        ≡ (if is_listed (stored_addresses (stores_of store)) address
+        then Some (slice_index memory.now address)
+        else None)) }
+{
+    accessed_bytes(alloc, memory, access_of(store))
+}
+
+// The bytes that a store reaches.
+fn access_of(store: Option<Store>) -> Option<Access>
+    ensures { loaded_addresses result ≡ stored_addresses (stores_of store) }
+{
+    let store = store?;
+    Some(Access {
+        addr: store.addr,
+        width: store.width,
+    })
 }
 
 // Adds the byte of memory at an address, where it lies in it.

@@ -5,6 +5,7 @@
 //! it.
 
 use ia_addr::Access;
+use ia_exec::Store;
 use ia_regs::Flags;
 use tm_model::{CoreState, Hit, Outcome};
 
@@ -46,8 +47,10 @@ pub struct PageDelta {
     /// Which bytes it loaded.
     pub load: Option<Access>,
     /// The bytes that it stored: of a step inside, those that its transaction keeps for itself; of a commit, all that
-    /// it kept; of any other step, memory's.
+    /// it kept; of any other step, memory's. A step whose store is pending has none, and a drain those of its store.
     pub stored: Vec<StoredByte>,
+    /// The store that it made and that is pending behind it, behind those that were.
+    pub pending: Option<Store>,
     /// For each core, the hit by which the step condemned its transaction, where it did.
     pub hits: [Option<Hit>; 64],
 }

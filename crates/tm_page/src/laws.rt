@@ -12,7 +12,7 @@ pub fn states_stand()
     ensures { StatesStand }
 {}
 
-/// What a core sees is the page's memory with the core's private bytes over it.
+/// What a core sees is the page's memory with the core's pending stores over it, and over these its private bytes.
 pub fn private_bytes_are_seen()
     ensures { SeesPrivate }
 {}

@@ -1,6 +1,4 @@
-use Rattle.std.proofs.Common.{◌≡◌, ◌∙◌, ℕ, ◌≤◌, Bool, false, true, List, [], ◌++◌, ap, codes, length, subst, sym}
-use Rattle.std.specs.List.{list_any}
-use Rattle.std.specs.Prelude.{is_some}
+use Rattle.std.proofs.Common.{◌≡◌, ◌∙◌, ℕ, ◌≤◌, false, List, [], ◌++◌, ap, codes, length, subst, sym}
 use Rattle.text_out.proofs.Writing.{wrote_none, wrote_then}
 use Rattle.text_out.specs.Writing.{Wrote}
 use Rattle.page_steps.specs.Members.{hits_from, member_text, named, some_then}

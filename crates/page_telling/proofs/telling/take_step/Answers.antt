@@ -25,8 +25,8 @@ returns-clause-made c =
     record {
       step = c.in_ok-outcome.ensures.made;
       mode = sym c.in_ok-state.ensures.state;
-      told = λ off. told_of machine after c.args.pick outcome before.reach found.0 old c.in_ok-delta.delta off
-          (c.none_pending.ensures off) c.in_ok-outcome.ensures.made shown.within shown.reach listed difference;
+      told = told_of machine after c.args.pick outcome before.reach found.0 old c.in_ok-delta.delta
+          c.in_ok-outcome.ensures.made shown.within shown.reach listed difference;
       kept = subst (λ l. IsKeptBehind outcome c.args.pick.core l old c.take.new.self.bytes.items)
           c.as_slice.ensures.value c.in_ok-take.ensures;
     }

@@ -1,11 +1,11 @@
-use Rattle.std.proofs.Common.{◌≡◌, ◌∙◌, ◌≤◌, ℕ, List, [], ap, length, refl, subst, sym}
+use Rattle.std.proofs.Common.{◌∙◌, List, [], ap, length, subst, sym}
 use Rattle.std.proofs.lemmas.Result.{IfOk-weaker, err_from_is_err_and}
 use Rattle.std.specs.Prelude.{codes}
 use Rattle.text_out.specs.Writing.{Wrote}
 use Rattle.elide_setup.specs.Runs.{IsRunOf}
 use Rattle.tm_core.specs.Theorem.{ShownMachine as Machine}
 use Rattle.page_run.proofs.Refusing.{not_told_of}
-use Rattle.page_telling.proofs.Knowing.{IsKnown, IsKnownAlone, known_first}
+use Rattle.page_telling.proofs.Knowing.{IsKnown, known_first}
 use Rattle.page_telling.proofs.Lines.{HasTold, all_tell, has_told, lines_written}
 use Rattle.page_telling.specs.Telling.{Spot}
 use Rattle.page_telling.specs.Told.{AreLinesWritten}
@@ -29,9 +29,9 @@ returns-clause-written g c =
     let opened = c.open_first.new.self in
     let ended = c.walk.new.maker in
     let walked = c.in_ok-walk.ensures.walked in
-    let known : IsKnownAlone opened.machine opened.behind.kept.bytes.items =
-    λ off. subst (λ (kept : List KeptByte). IsKnown opened.machine kept)
-    (sym (c.open_first.ensures.kept ∙ c.new.ensures))
+    let known : IsKnown opened.machine opened.behind.kept.bytes.items =
+    subst (λ (kept : List KeptByte). IsKnown opened.machine kept)
+    (sym (c.open_first.ensures.kept ∙ c.in_ok-behind.ensures.kept))
     (subst (λ (m : Machine). IsKnown m []) (sym c.open_first.ensures.machine)
     (known_first program limits machine c.in_ok-machine.ensures.made)) in
     let opens : IsRunOf program limits [] opened.machine =

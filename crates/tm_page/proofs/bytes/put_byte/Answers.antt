@@ -1,4 +1,4 @@
-use Rattle.std.proofs.Common.{ℕ, get_or, refl, ap, ◌∙◌}
+use Rattle.std.proofs.Common.{get_or, refl, ap, ◌∙◌}
 use Rattle.tm_page.proofs.Lists.{byte_joins}
 use Rattle.tm_page.specs.Applied.{stored_at}
 use Rattle.tm_page.proofs.bytes.put_byte.Goals as goal

@@ -1,4 +1,4 @@
-use Rattle.std.proofs.Common.{◌≡◌, ℕ, ap, ◌∙◌}
+use Rattle.std.proofs.Common.{◌≡◌, ap, ◌∙◌}
 use Rattle.tm_core.specs.Seen.{byte_seen}
 use Rattle.tm_page.proofs.Lists.{byte_joins}
 use Rattle.tm_page.specs.Applied.{stored_at}

@@ -1,4 +1,4 @@
-use Rattle.std.proofs.Common.{◌≡◌, ℕ, Some, None, cond, get_or, length, take}
+use Rattle.std.proofs.Common.{◌≡◌, ℕ, Some, None, cond, length, take}
 use Rattle.tm_core.specs.Seen.{byte_seen}
 use Rattle.tm_page.specs.Applied.{is_listed, stored_at}
 use Rattle.tm_page.specs.Shows.{IsAddress}

@@ -1,4 +1,4 @@
-use Rattle.std.proofs.Common.{◌≡◌, ℕ, ◌<◌, ◌≤◌, None, get_or, length, unwrap_or, arith, ◌∙◌, length-set, sym, subst}
+use Rattle.std.proofs.Common.{ℕ, ◌<◌, length, arith, ◌∙◌, length-set, sym}
 use Rattle.tm_page.proofs.Rows.{all_patched, filled_next}
 use Rattle.tm_page.proofs.changes.changed_row.Goals as goal
 

@@ -1,4 +1,4 @@
-use Rattle.std.proofs.Common.{◌≤◌, ◌<◌, arith, refl}
+use Rattle.std.proofs.Common.{arith, refl}
 use Rattle.page_telling.proofs.telling.TellingStepMaker.make_step.Goals as goal
 
 pub returns-clause-made : goal.returns-clause-made
