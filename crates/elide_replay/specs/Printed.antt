@@ -3,6 +3,7 @@
 use Rattle.std.specs.Prelude.{◌≡◌, ℕ, false, true, List, [], ◌++◌, Option}
 use Rattle.std.specs.Io.KnownBytes.{Appends}
 use Rattle.elide_args.specs.declared.subcommand.ReplayOptions.{ReplayOptions}
+use Rattle.elide_program.specs.Settings.{has_store_buffer}
 use Rattle.tm_model.specs.declared.outcome.Outcome.{Outcome}
 use Rattle.tm_model.specs.declared.outcome.Pick.{Pick}
 use Rattle.elide_setup.specs.Recorded.{IsRecorded}
@@ -44,6 +45,6 @@ pub record IsPrinted (content left : List ℕ → Option (List ℕ)) (options : 
   pub made : IsBoardOf setup board
   pub steps : List (Pick × Outcome)
   pub stepped : HasMade board steps
-  pub scheduled : AreAsked content options.schedule (picks_made steps)
+  pub scheduled : AreAsked (has_store_buffer options.machine) content options.schedule (picks_made steps)
   pub recorded : IsRecorded left options.record (schedule_text (picks_told steps))
   pub told : IsTold setup options board before after

@@ -2,6 +2,7 @@
 use Rattle.std.specs.Prelude.{◌≡◌, ℕ, Bool, true, false, List, Option, length, max, codes}
 use Rattle.std.specs.Borrow.{Bor}
 use Rattle.elide_args.specs.declared.subcommand.ReplayOptions.{ReplayOptions}
+use Rattle.elide_program.specs.Settings.{has_store_buffer}
 use Rattle.elide_setup.specs.Faults.{fault_number}
 use Rattle.elide_setup.specs.Misuse.{IsMisuse}
 use Rattle.elide_setup.specs.Refused.{IsAnyWant, IsCourseOf, IsNoBoard, IsNotScheduled, IsOverProgram, IsUnrecorded}
@@ -53,7 +54,8 @@ pub data IsRefused (content : List ℕ → Option (List ℕ)) (are_one : List �
       → IsRefused content are_one options why
   unscheduled : IsNotScheduled content options.machine options.schedule why → IsRefused content are_one options why
   not_made : (setup : Setup) (asked : Course) → IsAsked (content options.machine.file.now) options.machine setup
-      → IsCourseOf content options.schedule asked → IsNotMade setup asked why → IsRefused content are_one options why
+      → IsCourseOf (has_store_buffer options.machine) content options.schedule asked → IsNotMade setup asked why
+      → IsRefused content are_one options why
   not_compared : (setup : Setup) (board : Board) → IsAsked (content options.machine.file.now) options.machine setup
       → IsBoardOf setup board → IsNotCompared setup board options.record why → IsRefused content are_one options why
   no_room : IsAnyWant why → IsRefused content are_one options why

@@ -14,6 +14,7 @@ ghost use Rattle.elide_setup.specs.Recorded.{IsRecorded};
 ghost use Rattle.elide_setup.specs.Refused.{IsAnyWant, IsCourseOf, IsNoBoard, IsNotScheduled, IsUnrecorded};
 ghost use Rattle.elide_setup.specs.Refused.{IsUnwritten};
 ghost use Rattle.elide_json.specs.Refused.{IsUnsent};
+ghost use Rattle.elide_program.specs.Settings.{has_store_buffer};
 ghost use Rattle.elide_setup.specs.Schedules.{AreOf, picks_made};
 ghost use Rattle.elide_setup.specs.Setup.{IsAsked};
 ghost use Rattle.elide_setup.specs.Shown.{shown_text};
@@ -202,7 +203,8 @@ fn begin<P: Paths>(
 ) -> Result<(Setup, Course, Option<NamedPlaces>), Refusal>
     ensures setup { IfOk result
         (λ r. IsAsked (P.content paths.old options.now.machine.file.now) options.now.machine r.0) }
-    ensures course { IfOk result (λ r. IsCourseOf (P.content paths.old) options.now.schedule r.1) }
+    ensures course { IfOk result (λ r. IsCourseOf (has_store_buffer options.now.machine) (P.content paths.old)
+        options.now.schedule r.1) }
     ensures places { IfOk result (λ r. options.now.explains ≡ false → r.2 ≡ None) }
     ensures none { IfErr result
         (IsNotScheduled (P.content paths.old) options.now.machine options.now.schedule) }

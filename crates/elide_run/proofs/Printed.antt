@@ -25,7 +25,8 @@ abbrev pub run_of_options : (content after left : List ℕ → Option (List ℕ)
     (path : Option (Bor (List ℕ))) (machine : Machine) (made : List (Pick × Outcome))
     → ((other : List ℕ) → after other ≡ content other)
     → IsAsked (after options.machine.file.now) options.machine opened.setup
-    → ((picks : List Pick) → AreOf opened.course picks → AreAsked after options.schedule picks)
+    → ((picks : List Pick) → AreOf opened.course picks
+    → AreAsked (has_store_buffer options.machine) after options.schedule picks)
     → form_of opened.course ≡ form_asked (has_store_buffer options.machine) options.schedule
     → ((cores : ℕ) (steps : List (Pick × Outcome)) → IsOut opened.course cores steps
     → IsAskedOut options.schedule cores steps)
@@ -40,7 +41,8 @@ run_of_options content after left options opened path machine made kept asked co
           subst (λ (text : Option (List ℕ)). IsAsked text options.machine opened.setup) (kept options.machine.file.now)
           asked;
       made = made;
-      steps = asked_before content after options.schedule (picks_made made) kept (course (picks_made made) steps);
+      steps = asked_before (has_store_buffer options.machine) content after options.schedule (picks_made made) kept
+          (course (picks_made made) steps);
       ran = ran;
       out = all (length opened.setup.program.entries) made out;
       recorded = recorded_asked left options.record (has_store_buffer options.machine) options.schedule opened.course

@@ -3,6 +3,7 @@ use Rattle.std.proofs.Common.{◌≡◌, ◌<◌, ℕ, Bool, List, Option, lengt
 use Rattle.std.specs.Borrow.{Bor}
 use Rattle.std.specs.Prelude.{All}
 use Rattle.elide_args.specs.declared.subcommand.RunOptions.{RunOptions}
+use Rattle.elide_program.specs.Settings.{has_store_buffer}
 use Rattle.tm_model.specs.declared.outcome.Outcome.{Outcome}
 use Rattle.tm_model.specs.declared.outcome.Pick.{Pick}
 use Rattle.elide_json.specs.Refused.{IsUnsaid, IsUnsent}
@@ -74,7 +75,8 @@ of_opening content after are_one options why kept h =
 -- there is no run along a course
 pub of_run : (content : List ℕ → Option (List ℕ)) (are_one : List ℕ → List ℕ → Option Bool) (options : RunOptions)
     (setup : Setup) (asked : Course) (path : Option (Bor (List ℕ))) (why : Refusal) →
-    IsAsked (content options.machine.file.now) options.machine setup → IsCourseOf content options.schedule asked →
+    IsAsked (content options.machine.file.now) options.machine setup →
+    IsCourseOf (has_store_buffer options.machine) content options.schedule asked →
     path ≡ options.record → IsNoRun setup asked path why → IsRefused content are_one options why
 of_run content are_one options setup asked path why is are given h =
     not_run setup asked is are (subst (λ (p : Option (Bor (List ℕ))). IsNoRun setup asked p why) given h)

@@ -68,7 +68,7 @@ pub record IsRunOfOptions (content left : List ℕ → Option (List ℕ)) (optio
     (machine : Machine) : Type 0 where
   pub asked : IsAsked (content options.machine.file.now) options.machine setup
   pub made : List (Pick × Outcome)
-  pub steps : AreAsked content options.schedule (picks_made made)
+  pub steps : AreAsked (has_store_buffer options.machine) content options.schedule (picks_made made)
   pub ran : IsRunOf setup.program setup.limits made machine
   pub out : IsAskedOut options.schedule (length setup.program.entries) made
   pub recorded :

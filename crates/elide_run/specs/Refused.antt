@@ -2,6 +2,7 @@
 use Rattle.std.specs.Prelude.{◌≡◌, ℕ, ◌||◌, ◌⊎◌, Bool, true, false, List, [], Option, length, codes}
 use Rattle.std.specs.Borrow.{Bor}
 use Rattle.elide_args.specs.declared.subcommand.RunOptions.{RunOptions}
+use Rattle.elide_program.specs.Settings.{has_store_buffer}
 use Rattle.elide_setup.specs.Misuse.{IsMisuse}
 use Rattle.elide_setup.specs.Refused.{IsAnyWant, IsCourseOf, IsNoCore, IsNoMachine, IsNotScheduled, IsOverProgram}
 use Rattle.elide_setup.specs.Refused.{IsUnrecorded, IsUntold, IsUnwritten, NamesNoCore}
@@ -55,7 +56,8 @@ pub data IsRefused (content : List ℕ → Option (List ℕ)) (are_one : List �
       → IsRefused content are_one options why
   unscheduled : IsNotScheduled content options.machine options.schedule why → IsRefused content are_one options why
   not_run : (setup : Setup) (asked : Course) → IsAsked (content options.machine.file.now) options.machine setup
-      → IsCourseOf content options.schedule asked → IsNoRun setup asked options.record why
+      → IsCourseOf (has_store_buffer options.machine) content options.schedule asked
+      → IsNoRun setup asked options.record why
       → IsRefused content are_one options why
   not_shown : (setup : Setup) (made : List (Pick × Outcome)) (machine : Machine)
       → IsAsked (content options.machine.file.now) options.machine setup

@@ -59,7 +59,9 @@ pub fn explain_code<P: Paths, O: Out + Drop, G: Progress>(
     let opened = job.opened;
     let options = job.options;
     let program = &opened.setup.program;
-    let teller = Teller::new(program, options.machine.file, &opened.places, true);
+    let limits = opened.setup.limits;
+    let path = options.machine.file;
+    let teller = Teller::new(job.alloc, program, limits, path, &opened.places, true)?;
     let teller = ReasonTeller {
         alloc: job.alloc,
         program,

@@ -33,12 +33,15 @@ pub fn explain_steps<P: Paths, O: Out + Drop, G: Progress>(
 {
     let options = job.options;
     let opened = job.opened;
+    let setup = &opened.setup;
     let teller = Teller::new(
-        &opened.setup.program,
+        job.alloc,
+        &setup.program,
+        setup.limits,
         options.machine.file,
         &opened.places,
         options.traces,
-    );
+    )?;
     let teller = teller.naming(names);
     make_steps(job, teller, paths, page, progress)
 }

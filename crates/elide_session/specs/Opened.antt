@@ -1,11 +1,10 @@
 -- The board that a session begins with, and the plan that it goes along (docs/FORMATS.md, "Debugger").
-use Rattle.std.specs.Prelude.{◌≡◌, ◌⊎◌, ℕ, Bool, true, false, not, ◌||◌, List, [], Option, Some, IfSome, is_some}
-use Rattle.std.specs.Prelude.{length, min}
-use Rattle.std.specs.Option.{option_copied}
+use Rattle.std.specs.Prelude.{◌≡◌, ◌⊎◌, ⊤, ℕ, Bool, true, false, not, ◌||◌, List, [], Option, is_some}
+use Rattle.std.specs.Prelude.{length, min, nat_lt}
 use Rattle.symbols.specs.declared.symbol.Symbol.{Symbol}
 use Rattle.elide_args.specs.declared.subcommand.MachineOptions.{MachineOptions}
 use Rattle.elide_args.specs.declared.subcommand.ScheduleOptions.{ScheduleOptions}
-use Rattle.elide_setup.specs.Drawing.{AreUnder, events_asked, limit_said}
+use Rattle.elide_setup.specs.Drawing.{ComeAs, IsDrawn}
 use Rattle.ia_image.specs.Program.{ProgramValue as Program}
 use Rattle.elide_setup.specs.Rounds.{IsDrawnOut, IsOut}
 use Rattle.elide_setup.specs.Runs.{IsRunOf}
@@ -16,6 +15,7 @@ use Rattle.tm_core.specs.Theorem.{ShownMachine as Machine}
 use Rattle.elide_setup.specs.declared.machine.Setup.{Setup}
 use Rattle.elide_setup.specs.declared.plan.Course.{Course}
 use Rattle.elide_setup.specs.declared.plan.Course.TheVariants as course
+use Rattle.elide_setup.specs.declared.plan.Drawn.{Drawn}
 use Rattle.elide_places.specs.FileSymbols.{AreSymbolsOf}
 use Rattle.tm_hist.specs.Board.{IsNew, ShownBoard as Board}
 use Rattle.tm_model.specs.declared.outcome.Outcome.{Outcome}
@@ -49,17 +49,27 @@ abbrev pub limited_course : Course → Course
 limited_course (course.Listed listed) = course.Listed listed
 limited_course (course.Drawn drawn) = course.Drawn (record drawn { most = min drawn.most most_drawn })
 
--- these steps are drawn as the options ask, each under an event that may be drawn, to the end or until there are so
--- many
-abbrev pub IsLimitedOut : ScheduleOptions → ℕ → List (Pick × Outcome) → Type 0
-IsLimitedOut options cores steps =
-    (most : ℕ) × (limit_said (option_copied options.limit) ≡ Some most)
-    × IsDrawnOut (not (is_some options.random)) cores (min most most_drawn) steps
-    × IfSome (events_asked (option_copied options.events)) (λ events. AreUnder events (picks_made steps))
+-- these steps are drawn as the options ask, where stores may be pending or not, and so do their events come, to the end
+-- or until there are so many
+pub record IsLimitedOut (drains : Bool) (options : ScheduleOptions) (cores : ℕ) (steps : List (Pick × Outcome))
+    : Type 0 where
+  pub drawn : Drawn
+  pub asked : IsDrawn drains options drawn
+  pub out : IsDrawnOut (not (is_some options.random)) cores (min drawn.most most_drawn) steps
+  pub come : ComeAs drawn (picks_made steps)
 
 -- the same of steps of a course that is drawn
 abbrev pub IsOutUnder : Course → ℕ → List (Pick × Outcome) → Type 0
 IsOutUnder asked cores steps = IsOut asked cores steps × AreOf asked (picks_made steps)
+
+-- no store may be pending on the machine, where the course is drawn
+abbrev pub NonePends : Setup → Course → Type 0
+NonePends setup (course.Listed listed) = ⊤
+NonePends setup (course.Drawn drawn) = (setup.limits.stores ≡ 0) × (drawn.drains ≡ false)
+
+-- stores may be pending on a board's machine
+abbrev pub may_pend : Board → Bool
+may_pend board = nat_lt 0 board.limits.stores
 
 -- the picks are those that the outcomes of a run from the program's first state tell, whose steps end so
 pub record AreDrawn (program : Program) (limits : Limits) (ends : ℕ → List (Pick × Outcome) → Type 0)
@@ -76,7 +86,7 @@ pub record AreDrawn (program : Program) (limits : Limits) (ends : ℕ → List (
 pub record IsPlan (content : List ℕ → Option (List ℕ)) (options : ScheduleOptions) (board : Board) (picks : List Pick)
     : Type 0 where
   pub asked : is_scheduled options ≡ true → (are_listed options ≡ true) ⊎ (board.limits.stores ≡ 0) →
-      AreAsked content options picks
+      AreAsked (may_pend board) content options picks
   pub drawn : is_scheduled options ≡ true → are_listed options ≡ false →
-      AreDrawn board.program board.limits (IsLimitedOut options) picks
+      AreDrawn board.program board.limits (IsLimitedOut (may_pend board) options) picks
   pub unasked : is_scheduled options ≡ false → picks ≡ []

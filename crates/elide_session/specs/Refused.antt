@@ -4,6 +4,7 @@ use Rattle.tm_debug.specs.declared.session.SessionFault.{SessionFault}
 use Rattle.tm_debug.specs.declared.session.SessionFault.TheVariants.{Read, Write, NoMemory}
 use Rattle.elide_args.specs.declared.subcommand.MachineOptions.{MachineOptions}
 use Rattle.elide_args.specs.declared.subcommand.ScheduleOptions.{ScheduleOptions}
+use Rattle.elide_program.specs.Settings.{has_store_buffer}
 use Rattle.elide_setup.specs.Refused.{HasNoSetup, IsAnyWant, IsCourseOf, IsNoBoard, IsNoMachine, IsNotScheduled}
 use Rattle.elide_setup.specs.Refused.{NamesNoCore}
 use Rattle.elide_setup.specs.Schedules.{listed_in}
@@ -27,7 +28,7 @@ pub data IsNotOpened (content : List ℕ → Option (List ℕ)) (machine : Machi
   unscheduled : is_scheduled schedule ≡ true → IsNotScheduled content machine schedule why
       → IsNotOpened content machine schedule why
   beyond : (setup : Setup) (asked : Course) → IsAsked (content machine.file.now) machine setup
-      → IsCourseOf content schedule asked
+      → IsCourseOf (has_store_buffer machine) content schedule asked
       → NamesNoCore (listed_in asked) (length setup.program.entries) why → IsNotOpened content machine schedule why
   boardless : (setup : Setup) → IsAsked (content machine.file.now) machine setup → IsNoBoard setup 1000000 why
       → IsNotOpened content machine schedule why

@@ -5,11 +5,11 @@
 //! far as a session can ask for it; where no schedule is said, its faults are left out. The board has made no step.
 //! What is asked of it is served by `debugger` and `gdb_server`.
 
-ghost use Rattle.std.specs.Prelude.{◌≡◌, IfErr, IfOk, is_some, true};
+ghost use Rattle.std.specs.Prelude.{◌≡◌, IfErr, IfOk, false, is_some, true};
 ghost use Rattle.elide_session.specs.Opened.{AreDrawn, IsOpened, IsOutUnder, IsPlan, is_scheduled, limited_course};
-ghost use Rattle.elide_session.specs.Opened.{says_draw};
+ghost use Rattle.elide_session.specs.Opened.{NonePends, says_draw};
 ghost use Rattle.elide_session.specs.Refused.{IsNotOpened, IsUndrawn, session_fault};
-ghost use Rattle.elide_setup.specs.Drawing.{AreUnder};
+ghost use Rattle.elide_setup.specs.Drawing.{ComeAs};
 ghost use Rattle.elide_setup.specs.Faults.{fault_number};
 ghost use Rattle.elide_setup.specs.Schedules.{AreOf, form_of};
 ghost use Rattle.tm_debug.specs.Faults.{session_code};
@@ -165,8 +165,7 @@ fn limited(course: Course) -> Course
 
 // The picks of a schedule.
 fn plan_of(alloc: Global, setup: &Setup, course: Course) -> Result<Vec<Pick>, Refusal>
-    ensures picks { (is_some (form_of course) ≡ true → setup.now.limits.stores ≡ 0) →
-        IfOk result (λ plan. AreOf course plan.items) }
+    ensures picks { NonePends setup.now course → IfOk result (λ plan. AreOf course plan.items) }
     ensures drawn { IfOk result (λ plan. is_some (form_of course) ≡ true →
         AreDrawn setup.now.program setup.now.limits (IsOutUnder course) plan.items) }
     ensures none { IfErr result (IsUndrawn setup.now) }
@@ -179,7 +178,8 @@ fn plan_of(alloc: Global, setup: &Setup, course: Course) -> Result<Vec<Pick>, Re
 
 // Those of one that is drawn, as a run on a machine of its own draws it.
 fn drawn_plan(alloc: Global, setup: &Setup, drawn: Drawn) -> Result<Vec<Pick>, Refusal>
-    ensures under { setup.now.limits.stores ≡ 0 → IfOk result (λ plan. AreUnder drawn.events plan.items) }
+    ensures come { setup.now.limits.stores ≡ 0 → drawn.drains ≡ false →
+        IfOk result (λ plan. ComeAs drawn plan.items) }
     ensures run { IfOk result
         (λ plan. AreDrawn setup.now.program setup.now.limits (IsOutUnder (Course.Drawn drawn)) plan.items) }
     ensures none { IfErr result (IsUndrawn setup.now) }

@@ -1,6 +1,7 @@
 -- Steps whose events are drawn, and one more.
-use Rattle.std.proofs.Common.{◌≡◌, ℕ, List, [], ◌∷◌, ◌++◌, Option, None, Some, refl, ap, subst, sym, ◌∙◌, inl, inr}
-use Rattle.std.specs.Prelude.{◌⊎◌, MatchOption}
+use Rattle.std.proofs.Common.{◌≡◌, ℕ, Bool, true, false, List, [], ◌∷◌, ◌++◌, Option, None, Some, refl, ap, subst}
+use Rattle.std.proofs.Common.{◌∙◌, sym, inl, inr}
+use Rattle.std.specs.Prelude.{◌⊎◌, ◌&&◌, MatchOption, not}
 use Rattle.std.proofs.lemmas.List.Elements.{All-append, All-cons, All-head, All-nil, All-tail}
 use Rattle.tm_model.proofs.Events.{no_event_told}
 use Rattle.tm_model.proofs.NonePending.{NonePending, none_behind, owed_is, within}
@@ -19,32 +20,62 @@ use Rattle.tm_pick.specs.Kinds.{IsOfKinds, no_kinds}
 use Rattle.tm_pick.specs.declared.events.Events.{Events}
 use Rattle.tm_pick.specs.declared.events.Events.TheVariants.{Never, Rate, Draw}
 use Rattle.tm_pick.specs.declared.kinds.Kinds.{Kinds}
-use Rattle.elide_setup.specs.Drawing.{AreUnder, IsUnder}
+use Rattle.elide_setup.specs.Drawing.{AreDrained, AreUnder, ComeAs, ComeWith, IsUnder, has_own_drains, names_drains}
+use Rattle.elide_setup.specs.Drawing.{one_more}
+use Rattle.elide_setup.specs.OwnDrains.{Befalls}
+use Rattle.elide_setup.specs.declared.own_drains.OwnDrains.{OwnDrains}
+use Rattle.elide_setup.specs.declared.plan.Drawn.{Drawn}
 use Rattle.elide_setup.specs.Owing.{AreOwedUnder}
 use Rattle.elide_setup.specs.Schedules.{picks_made, picks_told}
-use Rattle.elide_setup.proofs.Walks.{picks_on}
 
-is_under : (events : Events) (kinds : Kinds) (event : Option Event) → AreDrawn events kinds → IsOfKinds kinds event
+pub is_under : (events : Events) (kinds : Kinds) (event : Option Event) → AreDrawn events kinds → IsOfKinds kinds event
     → (kinds ≡ no_kinds → event ≡ None) → IsUnder events event
 is_under Never kinds event drawn of never = never drawn
 is_under (Rate many asked) kinds event drawn of never = subst (λ (k : Kinds). IsOfKinds k event) drawn of
 is_under Draw kinds event drawn of never = tt
 
-pub under_one : (events : Events) (kinds : Kinds) (pick : Pick) → AreDrawn events kinds → IsOfKinds kinds pick.event
+under_one : (events : Events) (kinds : Kinds) (pick : Pick) → AreDrawn events kinds → IsOfKinds kinds pick.event
     → (kinds ≡ no_kinds → pick.event ≡ None) →
     AreUnder events (pick ∷ [])
 under_one events kinds pick drawn of never =
     let P : Pick → Type 0 = λ p. IsUnder events p.event in
     All-cons P pick [] (is_under events kinds pick.event drawn of never) (All-nil P)
 
-pub under_more : (events : Events) (kinds : Kinds) (steps : List (Pick × Outcome)) (pick : Pick) (outcome : Outcome) →
-    AreDrawn events kinds → IsOfKinds kinds pick.event → (kinds ≡ no_kinds → pick.event ≡ None)
-    → AreUnder events (picks_made steps) →
-    AreUnder events (picks_made (steps ++ (pick, outcome) ∷ []))
-under_more events kinds steps pick outcome drawn of never under =
-    subst (λ (picks : List Pick). AreUnder events picks) (sym (picks_on steps ((pick, outcome) ∷ [])))
-    (All-append (λ (p : Pick). IsUnder events p.event) (picks_made steps) (pick ∷ []) under
-    (under_one events kinds pick drawn of never))
+-- ---- with drains besides, or without
+
+pub come_drained : (drawn : Drawn) (own : OwnDrains) (picks : List Pick) → has_own_drains drawn ≡ true
+    → AreDrained drawn.seed drawn.events own picks → ComeAs drawn picks
+come_drained drawn own picks is h =
+    subst (λ (besides : Bool). ComeWith besides drawn.seed drawn.events picks) (sym is) (own, h)
+
+pub come_under : (drawn : Drawn) (picks : List Pick) → has_own_drains drawn ≡ false → AreUnder drawn.events picks
+    → ComeAs drawn picks
+come_under drawn picks is h =
+    subst (λ (besides : Bool). ComeWith besides drawn.seed drawn.events picks) (sym is) h
+
+pub under_come : (drawn : Drawn) (picks : List Pick) → has_own_drains drawn ≡ false → ComeAs drawn picks
+    → AreUnder drawn.events picks
+under_come drawn picks is h = subst (λ (besides : Bool). ComeWith besides drawn.seed drawn.events picks) is h
+
+-- none come besides where no store may be pending
+pub no_own : (drawn : Drawn) → drawn.drains ≡ false → has_own_drains drawn ≡ false
+no_own drawn off = ap (λ (drains : Bool). drains && not (names_drains drawn.events)) off
+
+pub under_next : (events : Events) (kinds : Kinds) (picks : List Pick) (pick : Pick) → AreDrawn events kinds
+    → IsOfKinds kinds pick.event → (kinds ≡ no_kinds → pick.event ≡ None) → AreUnder events picks
+    → AreUnder events (picks ++ pick ∷ [])
+under_next events kinds picks pick drawn of never under =
+    All-append (λ (p : Pick). IsUnder events p.event) picks (pick ∷ []) under
+    (under_one events kinds pick drawn of never)
+
+-- one more with drains besides
+pub drained_next : (drawn : Drawn) (kinds : Kinds) (own after : OwnDrains) (picks : List Pick) (picked pick : Pick)
+    → AreDrawn drawn.events kinds → IsOfKinds kinds picked.event → (kinds ≡ no_kinds → picked.event ≡ None)
+    → pick.core ≡ picked.core → Befalls own picked.core picked.event pick.event after
+    → AreDrained drawn.seed drawn.events own picks → AreDrained drawn.seed drawn.events after (picks ++ pick ∷ [])
+drained_next drawn kinds own after picks picked pick of kind never same befalls h =
+    one_more own after picks picked.event pick h (is_under drawn.events kinds picked.event of kind never)
+    (subst (λ (core : ℕ). Befalls own core picked.event pick.event after) (sym same) befalls)
 
 -- ---- the events that their outcomes tell
 

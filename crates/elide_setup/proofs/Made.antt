@@ -54,7 +54,8 @@ pub of_plan : (content given left : List ℕ → Option (List ℕ)) (options : M
     (path : Option (Bor (List ℕ))) (file : ProgramFile) (settings : Settings) (plan : Plan) →
     ((other : List ℕ) → given other ≡ content other) →
     IsRead (content options.file.now) file → AreSettings options settings →
-    ((picks : List Pick) → ArePlanned content plan picks → AreAsked content schedule picks) →
+    ((picks : List Pick) → ArePlanned content plan picks
+    → AreAsked (has_store_buffer options) content schedule picks) →
     plan_form plan ≡ form_asked (has_store_buffer options) schedule →
     HasRunPlan given left file settings plan path → HasRun content left options schedule path
 of_plan content given left options schedule path file settings plan kept read said asked listed run = record {

@@ -1,5 +1,5 @@
 -- What a schedule states, where no file has changed.
-use Rattle.std.proofs.Common.{◌≡◌, ℕ, List, Option, None, Some, subst}
+use Rattle.std.proofs.Common.{◌≡◌, ℕ, Bool, List, Option, None, Some, subst}
 use Rattle.std.specs.Borrow.{Bor}
 use Rattle.std.specs.Prelude.{IfSome, Ok}
 use Rattle.elide_args.specs.declared.subcommand.ScheduleOptions.{ScheduleOptions}
@@ -25,8 +25,8 @@ file_before before after None picks kept h = tt
 file_before before after (Some path) picks kept h =
     subst (λ (content : Option (List ℕ)). IfSome content (λ text. schedule_of text ≡ Ok picks)) (kept path.now) h
 
-pub asked_before : (before after : List ℕ → Option (List ℕ)) (options : ScheduleOptions) (picks : List Pick)
-    → ((other : List ℕ) → after other ≡ before other) →
-    AreAsked after options picks → AreAsked before options picks
-asked_before before after options picks kept h =
+pub asked_before : (drains : Bool) (before after : List ℕ → Option (List ℕ)) (options : ScheduleOptions)
+    (picks : List Pick) → ((other : List ℕ) → after other ≡ before other) →
+    AreAsked drains after options picks → AreAsked drains before options picks
+asked_before drains before after options picks kept h =
     record { steps = h.steps; file = file_before before after options.path picks kept h.file; drawn = h.drawn }

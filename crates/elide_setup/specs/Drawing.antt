@@ -1,6 +1,6 @@
 -- What a schedule that is drawn is drawn from (docs/FORMATS.md, "Events that are drawn").
-use Rattle.std.specs.Prelude.{◌≡◌, ◌≢◌, ◌||◌, ℕ, Bool, true, false, List, ⊤, All, Option, Some, None, option_and_then}
-use Rattle.std.specs.Prelude.{suc, zero}
+use Rattle.std.specs.Prelude.{◌≡◌, ◌≢◌, ◌&&◌, ◌||◌, not, ℕ, Bool, true, false, List, [], ◌∷◌, ◌++◌, ⊤, All}
+use Rattle.std.specs.Prelude.{Option, Some, None, option_and_then, suc, zero}
 use Rattle.std.specs.Option.{option_copied}
 use Rattle.elide_args.specs.declared.subcommand.ScheduleOptions.{ScheduleOptions}
 use Rattle.tm_model.specs.declared.outcome.Event.{Event}
@@ -10,6 +10,8 @@ use Rattle.tm_pick.specs.declared.events.Events.{Events}
 use Rattle.tm_pick.specs.declared.events.Events.TheVariants.{Never, Rate, Draw}
 use Rattle.elide_program.specs.Settings.{word32}
 use Rattle.elide_setup.specs.Events.{events_said}
+use Rattle.elide_setup.specs.OwnDrains.{AreOwnDrains, Befalls}
+use Rattle.elide_setup.specs.declared.own_drains.OwnDrains.{OwnDrains}
 use Rattle.elide_setup.specs.declared.plan.Course.{Course}
 use Rattle.elide_setup.specs.declared.plan.Course.TheVariants as course
 use Rattle.elide_setup.specs.declared.plan.Drawn.{Drawn}
@@ -47,11 +49,13 @@ abbrev pub limit_said : Option (List ℕ) → Option ℕ
 limit_said None = Some 1000000
 limit_said (Some text) = option_and_then some_steps (word32 text)
 
-pub record IsDrawn (options : ScheduleOptions) (drawn : Drawn) : Type 0 where
+-- what is drawn as the options ask, where stores may be pending or not
+pub record IsDrawn (drains : Bool) (options : ScheduleOptions) (drawn : Drawn) : Type 0 where
   pub seed : IsSeed (option_copied options.random) drawn.seed
   pub events : events_asked (option_copied options.events) ≡ Some drawn.events
   pub event_seed : IsEventSeed options drawn.seed drawn.event_seed
   pub most : limit_said (option_copied options.limit) ≡ Some drawn.most
+  pub may_drain : drawn.drains ≡ drains
 
 -- nothing is drawn: neither the most steps, nor events, nor what they are drawn from
 pub record SaysNoDraw (options : ScheduleOptions) : Type 0 where
@@ -60,15 +64,15 @@ pub record SaysNoDraw (options : ScheduleOptions) : Type 0 where
   pub seed : options.seed ≡ None
 
 -- what is said of a draw is said of a schedule that is drawn
-abbrev pub IsAskedDraw : ScheduleOptions → Plan → Type 0
-IsAskedDraw options (plan.Steps listed) = SaysNoDraw options
-IsAskedDraw options (plan.File path) = SaysNoDraw options
-IsAskedDraw options (plan.Drawn drawn) = IsDrawn options drawn
+abbrev pub IsAskedDraw : Bool → ScheduleOptions → Plan → Type 0
+IsAskedDraw drains options (plan.Steps listed) = SaysNoDraw options
+IsAskedDraw drains options (plan.File path) = SaysNoDraw options
+IsAskedDraw drains options (plan.Drawn drawn) = IsDrawn drains options drawn
 
 -- the same of a course
-abbrev pub IsCourseDraw : ScheduleOptions → Course → Type 0
-IsCourseDraw options (course.Listed listed) = SaysNoDraw options
-IsCourseDraw options (course.Drawn drawn) = IsDrawn options drawn
+abbrev pub IsCourseDraw : Bool → ScheduleOptions → Course → Type 0
+IsCourseDraw drains options (course.Listed listed) = SaysNoDraw options
+IsCourseDraw drains options (course.Drawn drawn) = IsDrawn drains options drawn
 
 -- an event that may be drawn
 abbrev pub IsUnder : Events → Option Event → Type 0
@@ -89,3 +93,32 @@ may_come Draw = true
 -- whether some step may tell of an event: it may come under one, or be a drain
 abbrev pub may_tell : Drawn → Bool
 may_tell drawn = may_come drawn.events || drawn.drains
+
+-- ---- drains that come besides
+
+-- whether drains are among the events that may be drawn
+abbrev pub names_drains : Events → Bool
+names_drains Never = false
+names_drains (Rate many kinds) = kinds.drain
+names_drains Draw = false
+
+-- whether drains come besides: where stores may be pending, and `--events` names none
+abbrev pub has_own_drains : Drawn → Bool
+has_own_drains drawn = drawn.drains && not (names_drains drawn.events)
+
+-- Picks one behind another, each under an event that may be drawn, or else the drain that comes besides, if any. Those
+-- of the next ones are told by this.
+pub data AreDrained (seed : Option ℕ) (events : Events) : OwnDrains → List Pick → Type 0 where
+  at_first : (own : OwnDrains) → AreOwnDrains seed own → AreDrained seed events own []
+  one_more : (own after : OwnDrains) (picks : List Pick) (event : Option Event) (pick : Pick)
+      → AreDrained seed events own picks → IsUnder events event → Befalls own pick.core event pick.event after
+      → AreDrained seed events after (picks ++ pick ∷ [])
+
+-- picks under events that may be drawn, with drains besides or without
+abbrev pub ComeWith : Bool → Option ℕ → Events → List Pick → Type 0
+ComeWith false seed events picks = AreUnder events picks
+ComeWith true seed events picks = (own : OwnDrains) × AreDrained seed events own picks
+
+-- the events of the picks come as they are drawn
+abbrev pub ComeAs : Drawn → List Pick → Type 0
+ComeAs drawn picks = ComeWith (has_own_drains drawn) drawn.seed drawn.events picks

@@ -7,6 +7,7 @@ pub mod Loaded
 pub mod Made
 pub mod Misuse
 pub mod Owing
+pub mod OwnDrains
 pub mod Paging
 pub mod Recorded
 pub mod Refused

@@ -32,7 +32,7 @@ pub record IsLoadedWith (content : List ℕ → Option (List ℕ)) (options : Ma
     (wants : Wants) (loaded : LoadedFile) (asked : Course) : Type 0 where
   pub setup : IsAsked (content options.file.now) options loaded.setup
   pub named : wants.symbols ≡ true → AreSymbolsOf setup.file loaded.names.symbols.items
-  pub course : IsCourseOf content schedule asked
-  pub draw : IsCourseDraw schedule asked
+  pub course : IsCourseOf (has_store_buffer options) content schedule asked
+  pub draw : IsCourseDraw (has_store_buffer options) schedule asked
   pub listed : form_of asked ≡ form_asked (has_store_buffer options) schedule
   pub out : (cores : ℕ) (steps : List (Pick × Outcome)) → IsOut asked cores steps → IsAskedOut schedule cores steps

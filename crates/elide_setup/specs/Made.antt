@@ -45,7 +45,7 @@ pub record HasRun (content left : List ℕ → Option (List ℕ)) (options : Mac
   pub setup : Setup
   pub asked : IsAsked (content options.file.now) options setup
   pub made : List (Pick × Outcome)
-  pub steps : AreAsked content schedule (picks_made made)
+  pub steps : AreAsked (has_store_buffer options) content schedule (picks_made made)
   pub machine : Machine
   pub ran : IsRunOf setup.program setup.limits made machine
   pub recorded : IsRecorded left path (schedule_asked (has_store_buffer options) schedule made)

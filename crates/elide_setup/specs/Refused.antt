@@ -27,7 +27,7 @@ use Rattle.tm_schedule.specs.declared.schedule.ScheduleFault.TheVariants as no_s
 use Rattle.elide_setup.specs.Events.{events_said}
 use Rattle.elide_setup.specs.Faults.{not_written, refusal_of, want}
 use Rattle.elide_setup.specs.Misuse.{IsMisuse}
-use Rattle.elide_setup.specs.Drawing.{AreUnder, limit_said}
+use Rattle.elide_setup.specs.Drawing.{ComeAs, limit_said}
 use Rattle.elide_setup.specs.Rounds.{has_stopped}
 use Rattle.elide_setup.specs.Runs.{IsRunOf}
 use Rattle.elide_setup.specs.Schedules.{AreAsked, AreOf, are_listed, picks_made}
@@ -191,9 +191,10 @@ pub record NamesNoCore (listed : List Pick) (cores : ℕ) (why : Refusal) : Type
 abbrev pub IsAnyWant : Refusal → Type 0
 IsAnyWant why = (why ≡ want) ⊎ (why ≡ refusal.Fault (fault.Run run.NoMemory))
 
--- the course is that of the schedule that the options ask for
-abbrev pub IsCourseOf : (List ℕ → Option (List ℕ)) → ScheduleOptions → Course → Type 0
-IsCourseOf content schedule asked = (picks : List Pick) → AreOf asked picks → AreAsked content schedule picks
+-- the course is that of the schedule that the options ask for, where stores may be pending or not
+abbrev pub IsCourseOf : Bool → (List ℕ → Option (List ℕ)) → ScheduleOptions → Course → Type 0
+IsCourseOf drains content schedule asked =
+    (picks : List Pick) → AreOf asked picks → AreAsked drains content schedule picks
 
 -- ---- the machine
 
@@ -264,7 +265,7 @@ pub record IsNextDrawn (drawn : Drawn) (cores : ℕ) (made : List (Pick × Outco
   pub few : length made < drawn.most
   pub core : pick.core < cores
   pub going : has_stopped made pick.core ≡ false
-  pub under : AreUnder drawn.events (pick ∷ [])
+  pub come : ComeAs drawn (picks_made made ++ pick ∷ [])
 
 -- one of a course
 abbrev pub IsDue : Course → ℕ → List (Pick × Outcome) → Pick → Type 0

@@ -2,38 +2,44 @@
 -- under, or none.
 use Rattle.std.specs.Prelude.{◌≡◌, ℕ, Bool, ◌||◌, List, [], map, Option, Some, None, IfSome, Ok, is_some}
 use Rattle.std.specs.Prelude.{if◌then◌else◌, length}
-use Rattle.std.specs.Option.{option_copied}
 use Rattle.elide_args.specs.declared.subcommand.ScheduleOptions.{ScheduleOptions}
 use Rattle.tm_schedule.specs.Schedule.{drawn_text, schedule_of, schedule_text, steps_of}
 use Rattle.tm_model.specs.declared.outcome.Outcome.{Outcome}
 use Rattle.tm_model.specs.declared.outcome.Pick.{Pick}
 use Rattle.tm_model.specs.Runs.{picks_of}
-use Rattle.elide_setup.specs.Drawing.{AreUnder, events_asked, may_tell}
+use Rattle.elide_setup.specs.Drawing.{ComeAs, IsDrawn, may_tell}
 use Rattle.elide_setup.specs.Owing.{history_made}
 use Rattle.elide_setup.specs.declared.plan.Course.{Course}
 use Rattle.elide_setup.specs.declared.plan.Course.TheVariants as course
+use Rattle.elide_setup.specs.declared.plan.Drawn.{Drawn}
 use Rattle.elide_setup.specs.declared.plan.Plan.{Plan}
 use Rattle.elide_setup.specs.declared.plan.Plan.TheVariants as plan
 
+-- the events of the picks come as the options ask of a schedule that is drawn
+pub record ComeAsAsked (drains : Bool) (options : ScheduleOptions) (picks : List Pick) : Type 0 where
+  pub drawn : Drawn
+  pub asked : IsDrawn drains options drawn
+  pub come : ComeAs drawn picks
+
 -- the picks are those of `--steps`, and those of the schedule that the file at `--schedule` holds, where its content is
--- known (docs/FORMATS.md, "Schedules"); of a schedule that is drawn, whose cores nothing is said of, the events are of
--- those that `--events` asks for
-pub record AreAsked (content : List ℕ → Option (List ℕ)) (options : ScheduleOptions) (picks : List Pick) : Type 0 where
+-- known (docs/FORMATS.md, "Schedules"); of a schedule that is drawn, whose cores nothing is said of, the events come as
+-- the options ask, where stores may be pending or not
+pub record AreAsked (drains : Bool) (content : List ℕ → Option (List ℕ)) (options : ScheduleOptions)
+    (picks : List Pick) : Type 0 where
   pub steps : IfSome options.steps (λ text. steps_of text.now ≡ Ok picks)
   pub file : IfSome options.path (λ path. IfSome (content path.now) (λ text. schedule_of text ≡ Ok picks))
-  pub drawn : options.steps ≡ None → options.path ≡ None →
-      IfSome (events_asked (option_copied options.events)) (λ events. AreUnder events picks)
+  pub drawn : options.steps ≡ None → options.path ≡ None → ComeAsAsked drains options picks
 
 -- the same of a plan that was read
 abbrev pub ArePlanned : (List ℕ → Option (List ℕ)) → Plan → List Pick → Type 0
 ArePlanned content (plan.Steps listed) picks = picks ≡ listed.items
 ArePlanned content (plan.File path) picks = IfSome (content path.now) (λ text. schedule_of text ≡ Ok picks)
-ArePlanned content (plan.Drawn drawn) picks = AreUnder drawn.events picks
+ArePlanned content (plan.Drawn drawn) picks = ComeAs drawn picks
 
 -- the same of a course
 abbrev pub AreOf : Course → List Pick → Type 0
 AreOf (course.Listed listed) picks = picks ≡ listed.items
-AreOf (course.Drawn drawn) picks = AreUnder drawn.events picks
+AreOf (course.Drawn drawn) picks = ComeAs drawn picks
 
 -- whether the steps are a list: those of `--steps` and of a file are one
 abbrev pub are_listed : ScheduleOptions → Bool

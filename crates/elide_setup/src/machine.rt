@@ -5,7 +5,7 @@
 //! last, and test the limits of transactions and of pending stores; only the latter tests that what is printed is in
 //! memory. No step is made here: that is `walk`.
 
-ghost use Rattle.std.specs.Prelude.{◌≡◌, ◌≤◌, ℕ, [], IfErr, IfOk, List, length};
+ghost use Rattle.std.specs.Prelude.{◌≡◌, ◌≤◌, ℕ, [], Bool, IfErr, IfOk, List, length};
 ghost use Rattle.tm_model.specs.declared.outcome.Outcome.{Outcome};
 ghost use Rattle.tm_model.specs.declared.outcome.Pick.{Pick};
 ghost use Rattle.tm_hist.specs.Board.{IsNew};
@@ -108,8 +108,8 @@ pub fn planned<P: Paths>(
     ensures setup { IfOk result (λ r. IsSetup file.now settings.now r.0) }
     ensures course { IfOk result (λ r. (picks : List Pick) → AreOf r.1 picks →
         ArePlanned (P.content paths.old) plan.entry picks) }
-    ensures draw { (options : ScheduleOptions) → IsAskedDraw options plan.entry →
-        IfOk result (λ r. IsCourseDraw options r.1) }
+    ensures draw { (drains : Bool) (options : ScheduleOptions) → IsAskedDraw drains options plan.entry →
+        IfOk result (λ r. IsCourseDraw drains options r.1) }
     ensures listed { IfOk result (λ r. form_of r.1 ≡ plan_form plan.entry) }
     ensures out { IfOk result (λ r. (cores : ℕ) (steps : List (Pick × Outcome)) → IsOut r.1 cores steps →
         IsPlannedOut plan.entry cores steps) }

@@ -52,7 +52,7 @@ impl Opened {
     ) -> Result<Opened, Refusal>
         ensures setup { IfOk result (λ r. IsAsked (P.content paths.old machine.now.file.now) machine.now r.setup) }
         ensures course { IfOk result (λ r. (picks : List Pick) → AreOf r.course picks →
-            AreAsked (P.content paths.old) schedule.now picks) }
+            AreAsked (has_store_buffer machine.now) (P.content paths.old) schedule.now picks) }
         ensures listed { IfOk result (λ r. form_of r.course ≡
             form_asked (has_store_buffer machine.now) schedule.now) }
         ensures out { IfOk result (λ r. (cores : ℕ) (steps : List (Pick × Outcome)) → IsOut r.course cores steps →

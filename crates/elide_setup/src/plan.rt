@@ -5,7 +5,7 @@
 //! [`Plan::course`] reads the schedule's file. Whether there is a core for each pick is not asked here, but before a
 //! walk or by its steps; the picks of a draw are made one by one in the walk, by what [`Drawn::picker`] gives.
 
-ghost use Rattle.std.specs.Prelude.{◌≡◌, ℕ, IfErr, IfOk, IfSome, List, MatchResult, None, Ok, OnOk, Option, Some};
+ghost use Rattle.std.specs.Prelude.{◌≡◌, ℕ, Bool, IfErr, IfOk, IfSome, List, MatchResult, None, Ok, OnOk, Option, Some};
 ghost use Rattle.std.specs.Prelude.{codes};
 ghost use Rattle.std.specs.Prelude.{◌||◌, is_some, true};
 ghost use Rattle.std.specs.Option.{option_copied};
@@ -17,7 +17,7 @@ ghost use Rattle.tm_model.specs.declared.outcome.Pick.{Pick};
 ghost use Rattle.tm_pick.specs.Drawn.{AreDrawn};
 ghost use Rattle.tm_schedule.specs.Schedule.{schedule_of, steps_of};
 ghost use Rattle.elide_setup.specs.Drawing.{IsAskedDraw, IsCourseDraw, IsDrawn, IsEventSeed, IsSeed, SaysNoDraw};
-ghost use Rattle.elide_setup.specs.Drawing.{events_asked, limit_said, may_tell};
+ghost use Rattle.elide_setup.specs.Drawing.{events_asked, has_own_drains, limit_said, may_tell, names_drains};
 ghost use Rattle.elide_setup.specs.Events.{events_said};
 ghost use Rattle.elide_setup.specs.Misuse.{IsMisuse};
 ghost use Rattle.elide_setup.specs.Refused.{HasNoCourse, HasNoSchedule, IsMisplanned, is_no_way, is_one_way, plan_path};
@@ -65,8 +65,8 @@ impl<'a> Plan<'a> {
         drains: bool,
     ) -> Result<Plan<'a>, Refusal>
         ensures steps { IfOk result (λ plan. (content : List ℕ → Option (List ℕ)) (picks : List Pick) →
-            ArePlanned content plan picks → AreAsked content options.now picks) }
-        ensures draw { IfOk result (IsAskedDraw options.now) }
+            ArePlanned content plan picks → AreAsked drains content options.now picks) }
+        ensures draw { IfOk result (IsAskedDraw drains options.now) }
         ensures listed { IfOk result (λ plan. plan_form plan ≡ form_asked drains options.now) }
         ensures path { IfOk result (λ plan. IfSome (plan_path plan) (λ path. options.now.path ≡ Some path)) }
         ensures out { IfOk result (λ plan. (cores : ℕ) (steps : List (Pick × Outcome)) → IsPlannedOut plan cores steps →
@@ -91,8 +91,8 @@ impl<'a> Plan<'a> {
     pub fn course<P: Paths>(self, alloc: Global, paths: &mut P) -> Result<Course, Refusal>
         ensures steps { IfOk result (λ course. (picks : List Pick) → AreOf course picks →
             ArePlanned (P.content paths.old) self.entry picks) }
-        ensures draw { (options : ScheduleOptions) → IsAskedDraw options self.entry →
-            IfOk result (IsCourseDraw options) }
+        ensures draw { (drains : Bool) (options : ScheduleOptions) → IsAskedDraw drains options self.entry →
+            IfOk result (IsCourseDraw drains options) }
         ensures listed { IfOk result (λ course. form_of course ≡ plan_form self.entry) }
         ensures out { IfOk result (λ course. (cores : ℕ) (steps : List (Pick × Outcome)) → IsOut course cores steps →
             IsPlannedOut self.entry cores steps) }
@@ -188,14 +188,14 @@ pub struct Drawn {
     pub event_seed: u32,
     /// The most steps, 1 or more.
     pub most: u32,
-    /// Whether stores may be pending, so that a step that waits is a drain.
+    /// Whether stores may be pending, so that a step that waits is a drain, and drains come besides.
     pub drains: bool,
 }
 
 impl Drawn {
     // Reads `--random`, `--events`, `--seed` and `--limit`.
     fn read(options: &ScheduleOptions<'_>, drains: bool) -> Result<Drawn, Refusal>
-        ensures drawn { IfOk result (IsDrawn options.now) }
+        ensures drawn { IfOk result (IsDrawn drains options.now) }
         ensures form { IfOk result (λ drawn. may_tell drawn ≡ (is_some options.now.events || drains)) }
         ensures none { IfErr result (IsMisplanned options.now) }
     {
@@ -222,7 +222,14 @@ impl Drawn {
         }
     }
 
-    /// What picks the steps: each core, and the event that its step comes under.
+    /// Whether drains come besides the events that are asked for: where stores may be pending, and these name none.
+    pub fn has_own_drains(self) -> bool
+        ensures { result ≡ has_own_drains self }
+    {
+        self.drains && !names_drains(self.events)
+    }
+
+    /// What picks the steps: each core, and the event that its step comes under, but for the drains that come besides.
     pub fn picker(self) -> Picker<'static>
         ensures events { AreDrawn self.events result.kinds }
         ensures turn { self.seed ≡ None → result.turn ≡ Some None }
@@ -232,6 +239,16 @@ impl Drawn {
             None => Picker::in_turn(),
         };
         picker.under(self.events.of_run(self.event_seed, 0))
+    }
+}
+
+// Whether drains are among the events that may be drawn.
+fn names_drains(events: Events) -> bool
+    ensures { result ≡ names_drains events }
+{
+    match events {
+        Events::Rate { kinds, .. } => kinds.drain,
+        Events::Never | Events::Draw => false,
     }
 }
 

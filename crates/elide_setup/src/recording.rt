@@ -10,7 +10,7 @@ ghost use Rattle.tm_model.specs.declared.outcome.Outcome.{Outcome};
 ghost use Rattle.tm_model.specs.declared.outcome.Pick.{Pick};
 ghost use Rattle.tm_schedule.specs.Schedule.{drawn_text};
 ghost use Rattle.tm_schedule.specs.ScheduleWriting.{left_text};
-ghost use Rattle.elide_setup.specs.Drawing.{AreUnder, may_tell};
+ghost use Rattle.elide_setup.specs.Drawing.{ComeAs, may_tell};
 ghost use Rattle.elide_setup.specs.Recorded.{IsRecorded};
 ghost use Rattle.elide_setup.specs.Refused.{IsNextDrawn, IsStepRefused, IsUnrecorded};
 ghost use Rattle.elide_setup.specs.Rounds.{IsDrawnOut};
@@ -42,7 +42,7 @@ pub fn walk_written<S: StepMaker, P: Paths, G: Progress>(
     requires { cores ≤ 64 }
     ensures refused { IfErr result (λ why. IsStepRefused S.takes S.refuses (IsNextDrawn drawn cores) maker.old why
         ⊎ IsUnrecorded path.entry why) }
-    ensures walked { IfOk result (λ _. (steps : List (Pick × Outcome)) × AreUnder drawn.events (picks_made steps)
+    ensures walked { IfOk result (λ _. (steps : List (Pick × Outcome)) × ComeAs drawn (picks_made steps)
         × Leads S.takes maker.old steps maker.new
         × IsRecorded (P.content paths.new) path.entry (drawn_text (may_tell drawn) (picks_told steps))
         × IsDrawnOut (not (is_some drawn.seed)) cores drawn.most steps) }
@@ -65,7 +65,7 @@ fn walk_to_file<S: StepMaker, P: Paths, G: Progress>(
     requires { cores ≤ 64 }
     ensures refused { IfErr result (λ why. IsStepRefused S.takes S.refuses (IsNextDrawn drawn cores) maker.old why
         ⊎ (why ≡ refusal.Fault fault.Output)) }
-    ensures walked { IfOk result (λ _. (steps : List (Pick × Outcome)) × AreUnder drawn.events (picks_made steps)
+    ensures walked { IfOk result (λ _. (steps : List (Pick × Outcome)) × ComeAs drawn (picks_made steps)
         × Leads S.takes maker.old steps maker.new
         × IfSome (P.content paths.new path.now) (λ held. held ≡ drawn_text (may_tell drawn) (picks_told steps))
         × IsDrawnOut (not (is_some drawn.seed)) cores drawn.most steps) }
@@ -106,7 +106,7 @@ impl<S: StepMaker, G: Progress> Text for DrawnText<'_, '_, S, G> {
     // The maker stays the one that was lent, and nothing refused it.
     ghost tells = { λ before after bytes. (after.maker.ghost_name ≡ before.maker.ghost_name)
         × (after.refused ≡ before.refused)
-        × (steps : List (Pick × Outcome)) × AreUnder before.drawn.events (picks_made steps)
+        × (steps : List (Pick × Outcome)) × ComeAs before.drawn (picks_made steps)
         × Leads S.takes before.maker.now steps after.maker.now
         × (bytes ≡ drawn_text (may_tell before.drawn) (picks_told steps))
         × IsDrawnOut (not (is_some before.drawn.seed)) before.cores before.drawn.most steps };

@@ -7,12 +7,13 @@
 //! before the machine moves, or else by the step.
 
 ghost use Rattle.std.specs.Prelude.{◌≡◌, ◌≤◌, ◌++◌, ◌∷◌, [], if◌then◌else◌, length, replicate, take, true};
-ghost use Rattle.std.specs.Prelude.{◌<◌, ◌⊎◌, ℕ, ⊤, All, Err, IfErr, IfOk, IsErr, List, Ok, OnOk, is_some, not};
+ghost use Rattle.std.specs.Prelude.{◌<◌, ◌⊎◌, ℕ, ⊤, All, Err, IfErr, IfOk, IsErr, List, None, Ok, OnOk, Some};
+ghost use Rattle.std.specs.Prelude.{is_some, not};
 ghost use Rattle.tm_core.specs.declared.fault.RunFault.TheVariants as run;
 ghost use Rattle.tm_hist.specs.declared.board.StepFault.{StepFault};
 ghost use Rattle.tm_model.specs.declared.outcome.Outcome.{Outcome};
 ghost use Rattle.tm_model.specs.declared.outcome.Pick.{Pick};
-ghost use Rattle.elide_setup.specs.Drawing.{AreUnder};
+ghost use Rattle.elide_setup.specs.Drawing.{ComeAs};
 ghost use Rattle.elide_setup.specs.Recorded.{IsRecorded};
 ghost use Rattle.elide_setup.specs.Refused.{IsNextDrawn, IsNextOf, IsNoCore, IsNoStep, IsNoWalk};
 ghost use Rattle.elide_setup.specs.Refused.{IsStepRefused, IsUnrecorded, NamesNoCore};
@@ -28,6 +29,7 @@ ghost use Rattle.elide_setup.specs.Walks.{Leads};
 
 use crate::fault::{Fault, Refusal};
 use crate::keeper::{Keeper, Unkept};
+use crate::picking::{DrainedPicker, PickSource};
 use crate::plan::{Course, Drawn};
 use crate::recorded::{record, record_drawn};
 use crate::recording::walk_written;
@@ -406,7 +408,7 @@ fn walk_asked<S: StepMaker, G: Progress>(
     requires { cores ≤ 64 }
     ensures refused { IfErr result (λ why. IsStepRefused S.takes S.refuses (IsNextDrawn drawn cores) maker.old why
         ⊎ (why ≡ refusal.Fault (fault.Run run.NoMemory))) }
-    ensures walked { IfOk result (λ _. (steps : List (Pick × Outcome)) × AreUnder drawn.events (picks_made steps)
+    ensures walked { IfOk result (λ _. (steps : List (Pick × Outcome)) × ComeAs drawn (picks_made steps)
         × Leads S.takes maker.old steps maker.new
         × (kept.new.items ≡ kept.old.items ++ (if keeps then picks_told steps else []))
         × IsDrawnOut (not (is_some drawn.seed)) cores drawn.most steps) }
@@ -429,12 +431,37 @@ pub fn walk_drawn<S: StepMaker, K: Keeper, G: Progress>(
     requires { cores ≤ 64 }
     ensures refused { IfErr result (λ why. IsStepRefused S.takes S.refuses (IsNextDrawn drawn cores) maker.old why
         ⊎ K.fails why) }
-    ensures walked { IfOk result (λ _. (steps : List (Pick × Outcome)) × AreUnder drawn.events (picks_made steps)
+    ensures walked { IfOk result (λ _. (steps : List (Pick × Outcome)) × ComeAs drawn (picks_made steps)
+        × Leads S.takes maker.old steps maker.new × Leads K.keeps keeper.old steps keeper.new
+        × IsDrawnOut (not (is_some drawn.seed)) cores drawn.most steps) }
+{
+    if drawn.has_own_drains() {
+        let source = DrainedPicker::new(drawn);
+        return walk_picked(drawn, cores, source, keeper, maker, progress);
+    }
+    walk_picked(drawn, cores, drawn.picker(), keeper, maker, progress)
+}
+
+// Makes the steps that this source picks.
+fn walk_picked<Q: PickSource + Drop, S: StepMaker, K: Keeper, G: Progress>(
+    drawn: Drawn,
+    cores: u8,
+    mut source: Q,
+    keeper: &mut K,
+    maker: &mut S,
+    progress: &mut G,
+) -> Result<(), Refusal>
+    requires cores { cores ≤ 64 }
+    requires begun { Q.is_behind drawn [] source }
+    requires none { ComeAs drawn [] }
+    requires turn { drawn.seed ≡ None → Q.turn source ≡ Some None }
+    ensures refused { IfErr result (λ why. IsStepRefused S.takes S.refuses (IsNextDrawn drawn cores) maker.old why
+        ⊎ K.fails why) }
+    ensures walked { IfOk result (λ _. (steps : List (Pick × Outcome)) × ComeAs drawn (picks_made steps)
         × Leads S.takes maker.old steps maker.new × Leads K.keeps keeper.old steps keeper.new
         × IsDrawnOut (not (is_some drawn.seed)) cores drawn.most steps) }
 {
     let mut going = Going::all(cores);
-    let mut picker = drawn.picker();
     for number in 0..drawn.most {
         if going.is_empty() {
             return Ok(());
@@ -442,7 +469,7 @@ pub fn walk_drawn<S: StepMaker, K: Keeper, G: Progress>(
         if number as usize % PORTION == 0 {
             progress.tell(u64::from(number), u64::from(drawn.most), "steps");
         }
-        let pick = picker.next(&going, false);
+        let pick = source.next_pick(&going);
         let outcome = maker.make_step(pick)?;
         settle(&mut going, pick, outcome);
         keeper.keep(pick, outcome)?;

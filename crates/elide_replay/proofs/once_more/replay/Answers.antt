@@ -12,6 +12,7 @@ use Rattle.tm_schedule.specs.Schedule.{schedule_text}
 use Rattle.elide_setup.specs.Schedules.{picks_made, picks_told}
 use Rattle.elide_replay.specs.declared.agreement.Agreement.{Agreement}
 use Rattle.std.proofs.lemmas.Result.{IfErr-weaker, err_from_is_err_and}
+use Rattle.elide_program.specs.Settings.{has_store_buffer}
 use Rattle.elide_replay.proofs.Refusing.{of_opening}
 use Rattle.elide_replay.specs.Refused.{IsNotCompared, IsRefused, not_compared, not_made}
 use Rattle.elide_replay.proofs.once_more.replay.Goals as goal
@@ -53,7 +54,8 @@ returns-clause-printed g c =
       steps = stepped.0;
       stepped = stepped.1;
       scheduled =
-          asked_before content (g.P.Paths.content c.record_path.new.paths) options.schedule (picks_made stepped.0)
+          asked_before (has_store_buffer options.machine) content (g.P.Paths.content c.record_path.new.paths)
+          options.schedule (picks_made stepped.0)
           c.record_path.ensures.kept (c.in_ok-setup.ensures.course (picks_made stepped.0) stepped.2);
       recorded = recorded;
       told = told;
@@ -78,7 +80,8 @@ returns-in_err-board-clause-refused g c =
     (not_made setup c.in_ok-setup.course
     (subst (λ (text : Option (List ℕ)). IsAsked text options.machine setup)
     (c.record_path.ensures.kept options.machine.file.now) c.in_ok-setup.ensures.setup)
-    (λ picks are. asked_before content (g.P.Paths.content c.record_path.new.paths) options.schedule picks
+    (λ picks are. asked_before (has_store_buffer options.machine) content (g.P.Paths.content c.record_path.new.paths)
+    options.schedule picks
     c.record_path.ensures.kept (c.in_ok-setup.ensures.course picks are))
     c.in_err-board.ensures.none)
 

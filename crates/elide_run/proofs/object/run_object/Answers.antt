@@ -1,6 +1,7 @@
 use Rattle.std.proofs.Common.{◌∙◌, ◌++◌, ℕ, List, Option, append_assoc, subst}
 use Rattle.std.proofs.lemmas.Result.{IfErr-weaker, IfOk-weaker, err_from_is_err_and}
 use Rattle.std.specs.Io.KnownBytes.{Appends}
+use Rattle.elide_program.specs.Settings.{has_store_buffer}
 use Rattle.text_out.proofs.Writing.{appends_then}
 use Rattle.elide_json.proofs.RunTexts.{run_text}
 use Rattle.elide_json.specs.Outcomes.{run_back, run_front, run_rows}
@@ -75,7 +76,8 @@ returns-in_err-machine-clause-refused g c =
     c.in_err-machine.field-0.0
     (subst (λ (text : Option (List ℕ)). IsAsked text options.machine setup)
     (c.record_path.ensures.kept options.machine.file.now) c.in_ok-opened.ensures.setup)
-    (λ picks are. asked_before content after options.schedule picks c.record_path.ensures.kept
+    (λ picks are. asked_before (has_store_buffer options.machine) content after options.schedule picks
+    c.record_path.ensures.kept
     (c.in_ok-opened.ensures.course picks are))
     c.in_ok-path.ensures.given c.in_err-machine.ensures.refused)
 

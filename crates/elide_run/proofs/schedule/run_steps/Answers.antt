@@ -1,5 +1,6 @@
 use Rattle.std.proofs.Common.{ℕ, List, Option, subst}
 use Rattle.std.proofs.lemmas.Result.{err_from_is_err_and}
+use Rattle.elide_program.specs.Settings.{has_store_buffer}
 use Rattle.elide_setup.proofs.Schedules.{asked_before}
 use Rattle.elide_setup.specs.Setup.{IsAsked}
 use Rattle.elide_run.proofs.Printed.{run_of_options}
@@ -41,6 +42,7 @@ returns-in_err-machine-clause-refused g c =
     c.in_err-machine.field-0.0
     (subst (λ (text : Option (List ℕ)). IsAsked text options.machine opened.setup)
     (c.record_path.ensures.kept options.machine.file.now) c.in_ok-opened.ensures.setup)
-    (λ picks are. asked_before content after options.schedule picks c.record_path.ensures.kept
+    (λ picks are. asked_before (has_store_buffer options.machine) content after options.schedule picks
+    c.record_path.ensures.kept
     (c.in_ok-opened.ensures.course picks are))
     c.in_ok-path.ensures.given c.in_err-machine.ensures.refused)

@@ -1,20 +1,20 @@
 use Rattle.std.proofs.lemmas.Result.{IfErr-weaker, IfOk-weaker}
-use Rattle.elide_setup.specs.Drawing.{AreUnder}
+use Rattle.elide_setup.specs.Drawing.{ComeAs}
 use Rattle.elide_setup.specs.Refused.{IsNoCore, IsNoWalk}
 use Rattle.elide_setup.specs.Runs.{AreMachineSteps}
 use Rattle.elide_setup.specs.declared.plan.Course.TheVariants as course
-use Rattle.elide_session.proofs.Plans.{Walked, of_walk, plan_run, plan_under}
+use Rattle.elide_session.proofs.Plans.{Walked, of_walk, plan_come, plan_run}
 use Rattle.elide_session.specs.Opened.{AreDrawn, IsOutUnder}
 use Rattle.elide_session.specs.Refused.{IsUndrawn}
 use Rattle.elide_session.proofs.opening.drawn_plan.Goals as goal
 
-pub returns-clause-under : goal.returns-clause-under
-returns-clause-under c off =
+pub returns-clause-come : goal.returns-clause-come
+returns-clause-come c off none =
     let drawn = c.args.drawn in
     let setup = c.args.setup.now in
     IfOk-weaker c.walk.result (λ kept. Walked drawn c.cores.result c.in_ok-machine.machine c.walk.new.maker kept.items)
-    (λ plan. AreUnder drawn.events plan.items)
-    (λ kept h. plan_under drawn setup c.cores.result c.in_ok-machine.machine c.walk.new.maker kept.items off
+    (λ plan. ComeAs drawn plan.items)
+    (λ kept h. plan_come drawn setup c.cores.result c.in_ok-machine.machine c.walk.new.maker kept.items off none
     c.in_ok-machine.ensures.made h)
     c.walk.ensures.walked
 

@@ -1,4 +1,4 @@
-use Rattle.std.proofs.Common.{ℕ, List, refl, subst, sym}
+use Rattle.std.proofs.Common.{refl, subst, sym}
 use Rattle.std.proofs.lemmas.Result.{err_from_is_err_and}
 use Rattle.elide_places.specs.FileSymbols.{AreSymbolsOf}
 use Rattle.elide_program.specs.Files.{Gives, most_bytes}

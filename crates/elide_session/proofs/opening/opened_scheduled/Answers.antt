@@ -1,14 +1,13 @@
-use Rattle.std.proofs.Common.{◌≡◌, ℕ, List, ap, refl, subst, sym, true}
+use Rattle.std.proofs.Common.{◌≡◌, ℕ, Bool, List, Option, subst, sym, true}
 use Rattle.std.proofs.lemmas.Result.{err_from_is_err_and}
 use Rattle.std.specs.Prelude.{is_some}
 use Rattle.elide_places.specs.FileSymbols.{AreSymbolsOf}
 use Rattle.elide_program.specs.Settings.{has_store_buffer}
 use Rattle.elide_setup.specs.Refused.{NamesNoCore}
-use Rattle.elide_setup.specs.Schedules.{AreOf, form_of, listed_in}
+use Rattle.elide_setup.specs.Schedules.{AreAsked, AreOf, form_of, listed_in}
 use Rattle.elide_setup.specs.declared.plan.Course.{Course}
-use Rattle.symbols.specs.declared.symbol.Symbol.{Symbol}
-use Rattle.elide_session.proofs.Plans.{drawn_for, limited_steps, none_drawn}
-use Rattle.elide_session.specs.Opened.{AreDrawn, IsOutUnder}
+use Rattle.elide_session.proofs.Plans.{board_pends, drawn_for, limited_steps, none_pends}
+use Rattle.elide_session.specs.Opened.{AreDrawn, IsLimitedOut, IsOutUnder, NonePends, may_pend}
 use Rattle.elide_session.specs.Refused.{beyond, boardless, undrawn, unscheduled}
 use Rattle.elide_session.proofs.opening.opened_scheduled.Goals as goal
 
@@ -33,18 +32,25 @@ returns-clause-plan g c =
     let asked = c.in_ok-loaded.course in
     let drains = has_store_buffer c.args.machine.now in
     let limited = c.limited-course.ensures in
+    let content : List ℕ → Option (List ℕ) = g.P.Paths.content c.args.paths.now in
+    let pend : drains ≡ may_pend board =
+    board_pends (content c.args.machine.now.file.now) c.args.machine.now setup board loaded.setup
+    c.in_ok-board.ensures.made in
     record {
-      asked = λ _ which. loaded.course picks
+      asked = λ _ which. subst (λ (b : Bool). AreAsked b content schedule picks) pend
+          (loaded.course picks
           (limited_steps c.in_ok-loaded.course picks
           (subst (λ (k : Course). AreOf k picks) limited
           (c.in_ok-plan.ensures.picks
-          (subst (λ (k : Course). is_some (form_of k) ≡ true → setup.limits.stores ≡ 0) (sym limited)
-          (none_drawn drains schedule setup board asked c.in_ok-board.ensures.made loaded.listed which)))));
-      drawn = λ _ unlisted. drawn_for drains schedule setup board asked picks c.in_ok-board.ensures.made loaded.draw
-          loaded.listed
+          (subst (λ (k : Course). NonePends setup k) (sym limited)
+          (none_pends drains schedule setup board asked c.in_ok-board.ensures.made pend loaded.draw loaded.listed
+          which))))));
+      drawn = λ _ unlisted. subst
+          (λ (b : Bool). AreDrawn board.program board.limits (IsLimitedOut b schedule) picks) pend
+          (drawn_for drains schedule setup board asked picks c.in_ok-board.ensures.made loaded.draw loaded.listed
           (subst
           (λ (k : Course). is_some (form_of k) ≡ true → AreDrawn setup.program setup.limits (IsOutUnder k) picks)
-          limited c.in_ok-plan.ensures.drawn) unlisted;
+          limited c.in_ok-plan.ensures.drawn) unlisted);
       unasked = λ none. let some = c.requires in cc;
     }
 

@@ -6,7 +6,7 @@ use Rattle.tm_model.specs.declared.outcome.Outcome.{Outcome}
 use Rattle.tm_model.specs.declared.outcome.Pick.{Pick}
 use Rattle.tm_schedule.specs.Schedule.{drawn_text}
 use Rattle.elide_setup.proofs.StepsKept.{never_fails, with_other}
-use Rattle.elide_setup.specs.Drawing.{AreUnder, may_tell}
+use Rattle.elide_setup.specs.Drawing.{ComeAs, may_tell}
 use Rattle.elide_setup.specs.Recorded.{IsRecorded}
 use Rattle.elide_setup.specs.Refused.{IsNextDrawn, IsStepRefused, IsUnrecorded}
 use Rattle.elide_setup.specs.Rounds.{IsDrawnOut}
@@ -27,7 +27,7 @@ pub returns-in-None-clause-walked : goal.returns-in-None-clause-walked
 returns-in-None-clause-walked g c =
     let drawn = c.args.drawn in
     let content : List ℕ → Option (List ℕ) = g.P.Paths.content c.args.paths.now in
-    with_other _ _ _ (λ (steps : List (Pick × Outcome)). AreUnder drawn.events (picks_made steps))
+    with_other _ _ _ (λ (steps : List (Pick × Outcome)). ComeAs drawn (picks_made steps))
     (λ (steps : List (Pick × Outcome)). Leads g.S.StepMaker.takes c.args.maker.now steps c.walk_drawn.new.maker)
     (λ (steps : List (Pick × Outcome)). IsDrawnOut (not (is_some drawn.seed)) c.args.cores drawn.most steps)
     (λ (steps : List (Pick × Outcome)). IsRecorded content c.args.path
@@ -60,10 +60,10 @@ returns-in-Some-clause-walked g c =
     let Out : List (Pick × Outcome) → Type 0 =
     λ steps. IsDrawnOut (not (is_some drawn.seed)) c.args.cores drawn.most steps in
     IfOk-weaker c.walk_to_file.result
-    (λ _. (steps : List (Pick × Outcome)) × AreUnder drawn.events (picks_made steps) × Made steps
+    (λ _. (steps : List (Pick × Outcome)) × ComeAs drawn (picks_made steps) × Made steps
     × IfSome (content c.in-Some.path.now) (λ held. held ≡ drawn_text (may_tell drawn) (picks_told steps))
     × Out steps)
-    (λ _. (steps : List (Pick × Outcome)) × AreUnder drawn.events (picks_made steps) × Made steps
+    (λ _. (steps : List (Pick × Outcome)) × ComeAs drawn (picks_made steps) × Made steps
     × IsRecorded content c.args.path (drawn_text (may_tell drawn) (picks_told steps)) × Out steps)
     (λ _ h. (
       h.0,

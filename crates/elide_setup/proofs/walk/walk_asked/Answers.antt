@@ -4,7 +4,7 @@ use Rattle.tm_core.specs.declared.fault.RunFault.TheVariants as run
 use Rattle.tm_model.specs.declared.outcome.Outcome.{Outcome}
 use Rattle.tm_model.specs.declared.outcome.Pick.{Pick}
 use Rattle.elide_setup.proofs.StepsKept.{listed_if_asked, never_fails, none_listed, with_other}
-use Rattle.elide_setup.specs.Drawing.{AreUnder}
+use Rattle.elide_setup.specs.Drawing.{ComeAs}
 use Rattle.elide_setup.specs.Refused.{IsNextDrawn, IsStepRefused}
 use Rattle.elide_setup.specs.Rounds.{IsDrawnOut}
 use Rattle.elide_setup.specs.Schedules.{picks_made, picks_told}
@@ -17,7 +17,7 @@ use Rattle.elide_setup.proofs.walk.walk_asked.Goals as goal
 pub returns-then-keeps-clause-walked : goal.returns-then-keeps-clause-walked
 returns-then-keeps-clause-walked g c =
     let drawn = c.args.drawn in
-    listed_if_asked (λ (steps : List (Pick × Outcome)). AreUnder drawn.events (picks_made steps))
+    listed_if_asked (λ (steps : List (Pick × Outcome)). ComeAs drawn (picks_made steps))
     (λ (steps : List (Pick × Outcome)). Leads g.S.StepMaker.takes c.args.maker.now steps c.walk_drawn.new.maker)
     (λ (steps : List (Pick × Outcome)). IsDrawnOut (not (is_some drawn.seed)) c.args.cores drawn.most steps)
     c.args.keeps c.args.kept.now c.walk_drawn.new.keeper c.walk_drawn.result c.if-keeps.true c.walk_drawn.ensures.walked
@@ -33,7 +33,7 @@ pub returns-clause-walked : goal.returns-clause-walked
 returns-clause-walked g c =
     let drawn = c.args.drawn in
     let items : List Pick = c.args.kept.now.items in
-    with_other _ _ _ (λ (steps : List (Pick × Outcome)). AreUnder drawn.events (picks_made steps))
+    with_other _ _ _ (λ (steps : List (Pick × Outcome)). ComeAs drawn (picks_made steps))
     (λ (steps : List (Pick × Outcome)). Leads g.S.StepMaker.takes c.args.maker.now steps c.walk_drawn-2.new.maker)
     (λ (steps : List (Pick × Outcome)). IsDrawnOut (not (is_some drawn.seed)) c.args.cores drawn.most steps)
     (λ (steps : List (Pick × Outcome)). items ≡ items ++ (if c.args.keeps then picks_told steps else []))

@@ -6,7 +6,8 @@ use Rattle.elide_program.specs.Refusals.{no_room}
 use Rattle.elide_setup.proofs.Refusing.{not_scheduled}
 use Rattle.elide_setup.proofs.Schedules.{planned_before}
 use Rattle.elide_setup.specs.Refused.{misplanned, misread, no_parts, no_program, no_setup, not_loaded, not_read}
-use Rattle.elide_setup.specs.Schedules.{form_asked}
+use Rattle.elide_setup.specs.Drawing.{IsCourseDraw}
+use Rattle.elide_setup.specs.Schedules.{AreAsked, form_asked}
 use Rattle.elide_setup.proofs.loaded.LoadedFile.with_course.Goals as goal
 
 pub returns-clause-loaded : goal.returns-clause-loaded
@@ -26,10 +27,14 @@ returns-clause-loaded g c =
         made = c.in_ok-setup.ensures.setup;
       };
       named = c.in_ok-names.ensures;
-      course = λ picks are. c.in_ok-plan.ensures.steps before picks
+      course = λ picks are. subst (λ (drains : Bool). AreAsked drains before c.args.schedule.now picks)
+          c.has_store_buffer.ensures
+          (c.in_ok-plan.ensures.steps before picks
           (planned_before before (g.P.Paths.content c.read_file.new.paths) c.in_ok-plan.plan picks
-          c.read_file.ensures.kept (c.in_ok-setup.ensures.course picks are));
-      draw = c.in_ok-setup.ensures.draw c.args.schedule.now c.in_ok-plan.ensures.draw;
+          c.read_file.ensures.kept (c.in_ok-setup.ensures.course picks are)));
+      draw = subst (λ (drains : Bool). IsCourseDraw drains c.args.schedule.now c.in_ok-setup.course)
+          c.has_store_buffer.ensures
+          (c.in_ok-setup.ensures.draw c.has_store_buffer.result c.args.schedule.now c.in_ok-plan.ensures.draw);
       listed = c.in_ok-setup.ensures.listed ∙ c.in_ok-plan.ensures.listed
           ∙ ap (λ (drains : Bool). form_asked drains c.args.schedule.now) c.has_store_buffer.ensures;
       out = λ cores steps out. c.in_ok-plan.ensures.out cores steps (c.in_ok-setup.ensures.out cores steps out);

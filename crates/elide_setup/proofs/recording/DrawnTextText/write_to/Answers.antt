@@ -7,7 +7,7 @@ use Rattle.tm_model.specs.declared.outcome.Pick.{Pick}
 use Rattle.tm_schedule.specs.Schedule.{drawn_text}
 use Rattle.tm_schedule.specs.ScheduleWriting.{left_text}
 use Rattle.elide_setup.proofs.StepsKept.{all_written, whole_written}
-use Rattle.elide_setup.specs.Drawing.{AreUnder, may_tell}
+use Rattle.elide_setup.specs.Drawing.{ComeAs, may_tell}
 use Rattle.elide_device.specs.Gathering.{told}
 use Rattle.elide_setup.specs.Rounds.{IsDrawnOut}
 use Rattle.elide_setup.specs.Schedules.{picks_made, picks_told}
@@ -34,7 +34,7 @@ returns-in-Ok-clause-written g c =
     (λ (last : g.row.O.Denot). (bytes : List ℕ)
     × ((c.args.self.now.maker.ghost_name ≡ c.args.self.now.maker.ghost_name)
     × (c.args.self.now.refused ≡ c.args.self.now.refused)
-    × (steps : List (Pick × Outcome)) × AreUnder drawn.events (picks_made steps)
+    × (steps : List (Pick × Outcome)) × ComeAs drawn (picks_made steps)
     × Leads g.S.StepMaker.takes c.args.self.now.maker.now steps c.walk_drawn.new.maker
     × (bytes ≡ drawn_text (may_tell drawn) (picks_told steps))
     × IsDrawnOut (not (is_some drawn.seed)) c.args.self.now.cores drawn.most steps)
