@@ -7,7 +7,8 @@
 //! `tm_work`; and that the file of `--record`, where its content is told, is left with the schedule of this history.
 //! What reads `--burst`, `--events` and `--seed` answers what they say, and refuses them only where they say nothing;
 //! the command is refused for the reason that it names alone (`specs/Refused.antt`).
-//! The texts of reasons and counts are compared by `doc_tests`. Stands on `elide_setup` and `tm_work`.
+//! The texts of reasons and counts are compared by `doc_tests`. Which pending stores drain when is `tm_work`'s. Stands
+//! on `elide_setup` and `tm_work`.
 #![tactic(auto)]
 
 mod record;

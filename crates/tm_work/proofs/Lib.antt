@@ -1,3 +1,4 @@
 pub mod Turns
 pub mod Counts
 pub mod Disturbed
+mod Late

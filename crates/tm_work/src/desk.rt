@@ -35,6 +35,7 @@ pub struct Desk<J: DeskIdentity> {
     state: PatientLock<DeskState<J>>,
     // How many of the first steps are each seat's.
     first: u64,
+    has_store_buffer: bool,
 }
 
 impl<J: DeskIdentity> Desk<J> {
@@ -47,6 +48,7 @@ impl<J: DeskIdentity> Desk<J> {
     {
         let (mut ledger, board) = opening.named::<J>();
         let cores = board.cores();
+        let has_store_buffer = board.limits().stores > 0;
         let Ok(mut seats) = Vec::with_capacity(alloc, usize::from(cores)) else {
             return Err(WorkFault::NoMemory(board));
         };
@@ -55,7 +57,12 @@ impl<J: DeskIdentity> Desk<J> {
         }
         let state = PatientLock::new(DeskState::new(board, ledger), cores);
         let first = FIRST_STEPS / u64::from(cores.max(1));
-        Ok((Desk { state, first }, seats))
+        let desk = Desk {
+            state,
+            first,
+            has_store_buffer,
+        };
+        Ok((desk, seats))
     }
 
     /// One step of the seat's core, which is one more pair of the board's history; or nothing, exactly where the core
@@ -92,6 +99,30 @@ impl<J: DeskIdentity> Desk<J> {
         ensures turns { AreTurns seat.old most result seat.new }
     {
         self.held_for(rt, seat).turns_under(seat, most, events)
+    }
+
+    /// As [`Desk::turns_under`], where stores may be pending, behind drains of the seat's stores that are late, which
+    /// are among the turns, as far as there are so many. Late are then those that were pending behind these drains and
+    /// have not drained since.
+    pub fn turns_drained(
+        &self,
+        rt: &impl Wait,
+        seat: &mut Seat<J>,
+        most: u32,
+        events: &mut Interferer,
+        late: &mut usize,
+    ) -> u32
+        requires events { AreDrawn J.events events.old }
+        ensures kinds { events.new ≡ events.old }
+        ensures turns { AreTurns seat.old most result seat.new }
+    {
+        self.held_for(rt, seat)
+            .turns_drained(seat, most, events, late)
+    }
+
+    // Whether stores may be pending.
+    pub(crate) fn has_store_buffer(&self) -> bool {
+        self.has_store_buffer
     }
 
     // The board, held for a burst of this seat.

@@ -2,7 +2,8 @@
 //!
 //! A turn makes a step and then notes it, in the seat and in the ledger; a row of turns makes its steps first and
 //! notes them once. Where no step is to be made the seat learns that it has ended. For how long the lock is kept is
-//! decided by `desk` and `manner`.
+//! decided by `desk` and `manner`. That a row of turns begins with
+//! drains is `draining`'s.
 
 ghost use Rattle.std.specs.Prelude.{◌≡◌, ◌<◌, ◌≤◌, ◌⊎◌, true, length, All, IfSome, IfNone};
 ghost use Rattle.tm_hist.specs.Board.{IsFull, IsStopped, TellsOf};
@@ -24,8 +25,8 @@ use tm_pick::Interferer;
 /// The board, with a ledger of what each seat knows of it.
 #[derive(Drop)]
 pub(crate) struct DeskState<J: DeskIdentity> {
-    board: Board,
-    ledger: Ledger<J, Progress>,
+    pub(crate) board: Board,
+    pub(crate) ledger: Ledger<J, Progress>,
 }
 
 impl<J: DeskIdentity> Model for DeskState<J> {

@@ -13,6 +13,7 @@
 
 mod desk;
 mod desk_state;
+mod draining;
 mod fault;
 mod gate;
 mod manner;

@@ -2,12 +2,15 @@
 //!
 //! [`Gated`] calls a gate, makes one turn, and calls it again. [`Steady`] meets the others (`meeting`), makes a
 //! burst of turns under one lock, each under the event that comes with it (`plan`), and tells its watch now and
-//! then. The threads are `workers`'.
+//! then. Where stores may be pending, a burst begins with drains. The threads are `workers`'.
 
 ghost use Rattle.std.specs.Prelude.{◌≡◌, ◌<◌};
 ghost use Rattle.tm_pick.specs.declared.events.Events.{Events};
 ghost use Rattle.tm_pick.specs.declared.events.Events.TheVariants.{Never};
 ghost use Rattle.tm_work.specs.Bursts.{IsBurst};
+ghost use Rattle.tm_pick.specs.Drawn.{AreDrawn};
+ghost use Rattle.tm_pick.specs.declared.kinds.Kinds.{Kinds};
+ghost use Rattle.tm_work.specs.Seats.{AreTurns};
 ghost use Rattle.tm_work.specs.Workers.{IsDone};
 
 use crate::desk::Desk;
@@ -17,6 +20,7 @@ use crate::plan::EventPlan;
 use crate::seat::{DeskIdentity, Seat};
 use crate::watch::Watch;
 use std::sync::Wait;
+use tm_pick::Interferer;
 
 // More than so many steps of a worker lie between two numbers that it tells its watch.
 const PORTION: u32 = 4096;
@@ -104,6 +108,68 @@ impl Burst {
     }
 }
 
+// The turns of a worker, a burst of them under one lock after another. A type for each way, so that a worker pays
+// nothing for drains where no store may be pending.
+trait Turns {
+    // The kinds of the events that come with them.
+    ghost kinds: { Self → Kinds };
+
+    // Makes a burst, of up to so many, and tells how many made a step.
+    fn make<J: DeskIdentity, R: Wait>(
+        &mut self,
+        rt: &R,
+        desk: &Desk<J>,
+        seat: &mut Seat<J>,
+        most: u32,
+    ) -> u32
+        requires events { AreDrawn J.events (kinds self.old) }
+        ensures same { kinds self.new ≡ kinds self.old }
+        ensures turns { AreTurns seat.old most result seat.new };
+}
+
+// Each under the event that comes with it.
+#[derive(Drop)]
+struct Undrained {
+    events: Interferer,
+}
+
+impl Turns for Undrained {
+    ghost kinds = { λ turns. turns.events };
+
+    #[inline(always)]
+    fn make<J: DeskIdentity, R: Wait>(
+        &mut self,
+        rt: &R,
+        desk: &Desk<J>,
+        seat: &mut Seat<J>,
+        most: u32,
+    ) -> u32 {
+        desk.turns_under(rt, seat, most, &mut self.events)
+    }
+}
+
+// The same, where stores may be pending. A burst begins with the drains of those that are late: they were pending when
+// the burst before began, so that others' steps could come between, and every store drains in the end.
+#[derive(Drop)]
+struct Drained {
+    events: Interferer,
+    late: usize,
+}
+
+impl Turns for Drained {
+    ghost kinds = { λ turns. turns.events };
+
+    fn make<J: DeskIdentity, R: Wait>(
+        &mut self,
+        rt: &R,
+        desk: &Desk<J>,
+        seat: &mut Seat<J>,
+        most: u32,
+    ) -> u32 {
+        desk.turns_drained(rt, seat, most, &mut self.events, &mut self.late)
+    }
+}
+
 /// Several steps under one lock, each under the event that a plan has for it, and a meeting with the other workers
 /// before the first ones. A watch hears of them now and then.
 #[derive(Drop)]
@@ -126,6 +192,39 @@ impl<'a, W: Watch> Steady<'a, W> {
         }
     }
 
+    // Makes the steps of a seat, in bursts of these turns.
+    fn work_by<T: Turns + Drop, J: DeskIdentity, R: Wait>(
+        &self,
+        rt: &R,
+        desk: &Desk<J>,
+        seat: Seat<J>,
+        budget: u32,
+        turns: T,
+    ) -> Seat<J>
+        requires fresh { seat.progress.steps ≡ 0 }
+        requires events { AreDrawn J.events (T.kinds turns) }
+        ensures { IsDone seat.core budget result }
+    {
+        let mut seat = seat;
+        let mut turns = turns;
+        let mut left = budget;
+        let mut due = budget.saturating_sub(PORTION);
+        while left > 0 {
+            self.meeting.meet();
+            let most = self.burst.next(budget - left).min(left);
+            if turns.make(rt, desk, &mut seat, most) < most {
+                break;
+            }
+            left -= most;
+            if left < due {
+                due = left.saturating_sub(PORTION);
+                self.tell(&seat);
+            }
+        }
+        self.meeting.leave(1);
+        seat
+    }
+
     // Tells the watch how long the history was with the seat's last step. The seat knows, so no worker counts for all.
     fn tell<J: DeskIdentity>(&self, seat: &Seat<J>) {
         if let Some(receipt) = seat.last() {
@@ -145,24 +244,11 @@ impl<'a, W: Watch + Sync> Manner for Steady<'a, W> {
         seat: Seat<J>,
         budget: u32,
     ) -> Seat<J> {
-        let mut seat = seat;
-        let mut events = self.plan.of_core(seat.core());
-        let mut left = budget;
-        let mut due = budget.saturating_sub(PORTION);
-        while left > 0 {
-            self.meeting.meet();
-            let most = self.burst.next(budget - left).min(left);
-            if desk.turns_under(rt, &mut seat, most, &mut events) < most {
-                break;
-            }
-            left -= most;
-            if left < due {
-                due = left.saturating_sub(PORTION);
-                self.tell(&seat);
-            }
+        let events = self.plan.of_core(seat.core());
+        if desk.has_store_buffer() {
+            return self.work_by(rt, desk, seat, budget, Drained { events, late: 0 });
         }
-        self.meeting.leave(1);
-        seat
+        self.work_by(rt, desk, seat, budget, Undrained { events })
     }
 
     fn stack_bytes(&self, _core: u8) -> Option<usize> {

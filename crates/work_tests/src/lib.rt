@@ -5,6 +5,8 @@
 #![tactic(auto)]
 
 #[cfg(test)]
+mod drains;
+#[cfg(test)]
 mod ledgers;
 #[cfg(test)]
 mod workers;
