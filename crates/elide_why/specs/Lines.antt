@@ -8,7 +8,7 @@ use Rattle.text_out.specs.TextLine.{line_end}
 use Rattle.tm_hist.specs.Lines.{stop_word}
 use Rattle.tm_sets.specs.declared.interface.Kind.{Kind}
 use Rattle.tm_sets.specs.declared.interface.Kind.TheVariants.{Read, Write}
-use Rattle.tm_why.specs.Lines.{begun_words, hit_word}
+use Rattle.tm_why.specs.Lines.{begun_words, hit_word, is_placed, stored_words}
 use Rattle.tm_why.specs.declared.reason.Reason.{Reason}
 use Rattle.tm_why.specs.declared.row.StandingHit.{StandingHit}
 use Rattle.tm_model.specs.declared.explain.AbortReason.{AbortReason}
@@ -25,9 +25,9 @@ abbrev pub insn_words : Option Insn → ℕ → List ℕ
 insn_words None at = []
 insn_words (Some insn) at = insn_text insn at
 
--- where the instruction stands that hit; which one made a store that drained is not known
+-- where the instruction stands by which the step hit, where that is known: of a drain, the one that made the store
 abbrev pub place_words : StandingHit → Words → List ℕ
-place_words hit words = if hit.is_drain then [] else codes ", " ++ words.place.items ++ codes " "
+place_words hit words = if is_placed hit then codes ", " ++ words.place.items ++ codes " " else []
 
 abbrev pub hit_words : Option StandingHit → Words → List ℕ
 hit_words None words = []
@@ -53,6 +53,20 @@ cause_text cause.Breakpoint why words = codes "#BP"
 cause_text (cause.Stop stop) why words = stop_word stop ++ outside_words words.outside
 cause_text cause.NotAllowed why words = codes "not in a transaction: "
 
+-- of a hit by a drain alone it is told which step made the store
+abbrev pub stored_of : Option StandingHit → Option ℕ
+stored_of None = None
+stored_of (Some hit) = hit.stored
+
+abbrev pub stored_told : AbortReason → Option StandingHit → Option ℕ
+stored_told cause.Conflict hit = stored_of hit
+stored_told (cause.Capacity kind line) hit = None
+stored_told cause.Nest hit = None
+stored_told (cause.Explicit argument) hit = None
+stored_told cause.Breakpoint hit = None
+stored_told (cause.Stop stop) hit = None
+stored_told cause.NotAllowed hit = None
+
 -- of a transaction that was hit alone it is told when it began
 abbrev pub begun_told : AbortReason → Option ℕ → Option ℕ
 begun_told cause.Conflict begun = begun
@@ -69,7 +83,9 @@ abort_front core status why words =
     decimal core ++ codes " aborted " ++ eight_digits status ++ codes " " ++ cause_text why.cause why words
 
 unfoldable pub abort_back : Reason → List ℕ
-abort_back why = begun_words (begun_told why.cause why.transaction.begun) ++ line_end
+abort_back why =
+    stored_words (stored_told why.cause why.transaction.hit) ++ begun_words (begun_told why.cause why.transaction.begun)
+    ++ line_end
 
 abbrev pub abort_line : ℕ → ℕ → Reason → Words → List ℕ
 abort_line core status why words =

@@ -1,7 +1,7 @@
 -- Why a step that is told of is refused (docs/FAULTS.md).
 use Rattle.std.specs.Prelude.{◌⊎◌}
 use Rattle.tm_model.specs.declared.outcome.Pick.{Pick}
-use Rattle.elide_setup.specs.Refused.{IsNoCore, IsNoMachine, IsUnwritten}
+use Rattle.elide_setup.specs.Refused.{IsNoCore, IsNoMachine, IsUntold, IsUnwritten}
 use Rattle.tm_core.specs.declared.limits.Limits.{Limits}
 use Rattle.tm_core.specs.Theorem.{ShownMachine as Machine}
 use Rattle.elide_setup.specs.declared.fault.Refusal.{Refusal}
@@ -10,6 +10,7 @@ use Rattle.elide_setup.specs.declared.fault.Refusal.{Refusal}
 abbrev pub IsUntoldStep : Machine → Pick → Refusal → Type 0
 IsUntoldStep machine pick why = IsNoCore machine pick why ⊎ IsUnwritten why
 
--- the steps of a board are not told again: no machine with its limits is made, or a line is not written
+-- the steps of a board are not told again: no machine with its limits is made, a line is not written, or there is no
+-- memory for the stores that are pending
 abbrev pub IsNotRetold : Limits → Refusal → Type 0
-IsNotRetold limits why = IsNoMachine limits why ⊎ IsUnwritten why
+IsNotRetold limits why = IsNoMachine limits why ⊎ IsUntold why

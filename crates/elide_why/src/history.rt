@@ -33,7 +33,8 @@ pub fn tell_history<O: Out + Drop, G: Progress>(
     ensures refused { IfErr result (IsNotRetold board.now.limits) }
 {
     let machine = machine_like(alloc, board.program(), board.limits())?;
-    let teller = Teller::new(board.program(), path, &places.places, false);
+    let limits = board.limits();
+    let teller = Teller::new(alloc, board.program(), limits, path, &places.places, false)?;
     let telling = Telling {
         machine,
         teller: teller.naming(places.names),

@@ -24,6 +24,7 @@ pub use history::tell_history;
 pub use interference::write_interference;
 pub use lines::write_abort;
 pub use outside::Outside;
+pub use parts::write_parts;
 pub use placed::NamedPlaces;
 pub use subset::write_stop;
 pub use teller::Teller;

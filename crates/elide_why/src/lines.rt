@@ -8,7 +8,7 @@ ghost use Rattle.std.specs.Prelude.{◌≡◌, ◌+◌, ◌≤◌, ◌++◌};
 ghost use Rattle.arrayvec.specs.ArrayVec.{array_vec_len};
 ghost use Rattle.text_out.specs.Writing.{Writes};
 ghost use Rattle.elide_why.specs.Lines.{abort_back, abort_front, abort_line, begun_told, cause_text};
-ghost use Rattle.elide_why.specs.Lines.{hit_words, line_text, no_room_text, outside_words, place_words};
+ghost use Rattle.elide_why.specs.Lines.{hit_words, line_text, no_room_text, outside_words, place_words, stored_told};
 
 use crate::parts::write_parts;
 use crate::subset::{push_outside, push_symbols};
@@ -18,7 +18,7 @@ use text_out::{Out, WriteFault};
 use tm_hist::stop_text;
 use tm_model::AbortReason;
 use tm_sets::Kind;
-use tm_why::{Reason, StandingHit, hit_word, push_begun};
+use tm_why::{Reason, StandingHit, hit_word, push_begun, push_stored};
 
 /// Writes the outcome line of an abort with this status, and its reason behind it.
 ///
@@ -52,14 +52,31 @@ fn push_front(page: &mut Page, core: u8, status: u32, reason: &Reason, words: &W
     push_cause(page, reason, words);
 }
 
-// What stands behind it: when a transaction began that was hit, and the line's end.
+// What stands behind it: when a store was made that hit as it drained, when a transaction began that was hit, and the
+// line's end.
 #[tactic(auto, unfolding(crate::specs::Lines::abort_back))]
 fn push_back(page: &mut Page, reason: &Reason)
     requires { array_vec_len page.old ≡ 0 }
     ensures { page.new.items ≡ page.old.items ++ abort_back reason.now }
 {
+    push_stored(page, stored_told(reason.cause, reason.transaction.hit));
     push_begun(page, begun_told(reason.cause, reason.transaction.begun));
     push(page, b"\n");
+}
+
+// At which step a store was made that hit when it reached memory, where that is told.
+fn stored_told(cause: AbortReason, hit: Option<StandingHit>) -> Option<u64>
+    ensures { result ≡ stored_told cause hit }
+{
+    match cause {
+        AbortReason::Conflict => hit?.stored,
+        AbortReason::Capacity(_, _) => None,
+        AbortReason::Nest => None,
+        AbortReason::Explicit(_) => None,
+        AbortReason::Breakpoint => None,
+        AbortReason::Stop(_) => None,
+        AbortReason::NotAllowed => None,
+    }
 }
 
 // When a transaction began, where that is told.
@@ -128,12 +145,12 @@ fn push_hit(page: &mut Page, hit: Option<StandingHit>, words: &Words<'_>)
     push_place(page, &hit, words);
 }
 
-// Where the instruction stands that hit. Which one made a store that drained is not known.
+// Where the instruction stands by which the step hit, where that is known: of a drain, the one that made the store.
 fn push_place(page: &mut Page, hit: &StandingHit, words: &Words<'_>)
     requires { array_vec_len page.old + 1200 ≤ 4096 }
     ensures { page.new.items ≡ page.old.items ++ place_words hit.now words.now }
 {
-    if hit.is_drain {
+    if !hit.is_placed() {
         return;
     }
     push(page, b", ");

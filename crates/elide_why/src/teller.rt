@@ -3,10 +3,12 @@
 //! [`Teller::step`] asks before the step, since the transaction that aborts is gone behind it; a core that the machine
 //! does not have is refused by that. Who tells more of the step asks by [`Teller::ask`], and has it made by
 //! [`Teller::make`]. Told is the outcome: an abort from outside comes in place of the step, whatever its reason would
-//! have been. A step that is refused has no line. The texts are those of `lines`, `interference` and `subset`.
+//! have been. A step that is refused has no line. Memory is taken where a teller is made, for the stores that are
+//! pending of a machine with store buffers, and by no step. The texts are those of `lines`, `interference` and
+//! `subset`.
 
 ghost use Rattle.std.specs.Prelude.{◌<◌, ℕ, IfErr, IfOk, List, OnOk, length};
-ghost use Rattle.elide_setup.specs.Refused.{IsNoCore, IsUnwritten};
+ghost use Rattle.elide_setup.specs.Refused.{IsAnyWant, IsNoCore, IsUnwritten};
 ghost use Rattle.elide_setup.specs.Runs.{IsMachineStep};
 ghost use Rattle.elide_why.specs.Refused.{IsUntoldStep};
 ghost use Rattle.text_out.specs.Writing.{Wrote};
@@ -20,8 +22,9 @@ use crate::words::Words;
 use elide_places::Places;
 use elide_setup::{Fault, Refusal, StepMaker};
 use ia_image::Program;
+use std::alloc::Global;
 use text_out::Out;
-use tm_core::{Machine, RunFault};
+use tm_core::{Limits, Machine, RunFault};
 use tm_hist::write_outcome;
 use tm_model::{Interference, Outcome, Pick, Reach};
 use tm_rule::Stop;
@@ -42,22 +45,29 @@ pub struct Teller<'a> {
 }
 
 impl<'a> Teller<'a> {
-    /// Before the first step of a program, of the file at this path with these places. `traces` says whether the steps
-    /// that are no aborts are told, too.
+    /// Before the first step of a program, of the file at this path with these places, on a machine with these limits.
+    /// `traces` says whether the steps that are no aborts are told, too. Refused for want of memory alone.
     pub fn new(
+        alloc: Global,
         program: &'a Program,
+        limits: Limits,
         path: &'a str,
         places: &'a Places,
         traces: bool,
-    ) -> Teller<'a> {
-        Teller {
-            program,
-            path,
-            places,
-            traces,
-            names: false,
-            watch: Watch::new(),
-            asked: Asked::nothing(),
+    ) -> Result<Teller<'a>, Refusal>
+        ensures { IfErr result IsAnyWant }
+    {
+        match Watch::new(alloc, limits) {
+            Ok(watch) => Ok(Teller {
+                program,
+                path,
+                places,
+                traces,
+                names: false,
+                watch,
+                asked: Asked::nothing(),
+            }),
+            Err(_) => Err(Refusal::Fault(Fault::Run(RunFault::NoMemory))),
         }
     }
 

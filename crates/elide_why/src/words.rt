@@ -1,8 +1,9 @@
 //! What the text of a program says of a reason: symbols of a line, an instruction and where it stands.
 //!
-//! [`Words::of`] chooses the instruction: that of the core that hit, or else the own one; [`Words::at`] takes that of
-//! an address. A place is a line of the source, or of an executable its symbol, or the address where neither is known.
-//! A path is told up to 1024 bytes. Nothing is written here: `lines` and `interference` do.
+//! [`Words::of`] chooses the instruction: that of the core that hit, of a drain the one that stored, or else the own
+//! one; [`Words::at`] takes that of an address. A place is a line of the source, or of an executable its symbol, or the
+//! address where neither is known. A path is told up to 1024 bytes. Nothing is written here: `lines` and `interference`
+//! do.
 
 ghost use Rattle.std.specs.Prelude.{◌≡◌, true};
 ghost use Rattle.arrayvec.specs.ArrayVec.{array_vec_len};
@@ -125,11 +126,11 @@ fn outside_of<'a>(program: &'a Program, places: &Places, reason: &Reason) -> Opt
     }
 }
 
-// Whether a reason tells an instruction: the one that hit, but for a store that drained, of which it is not known, or
-// the one that no transaction may run.
+// Whether a reason tells an instruction: the one by which a step hit, where it is known, or the one that no transaction
+// may run.
 fn tells_insn(reason: &Reason) -> bool {
     match (reason.cause, reason.transaction.hit) {
-        (AbortReason::Conflict, Some(hit)) => !hit.is_drain,
+        (AbortReason::Conflict, Some(hit)) => hit.is_placed(),
         (AbortReason::NotAllowed, _) => true,
         _ => false,
     }
