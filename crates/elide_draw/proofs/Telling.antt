@@ -15,7 +15,7 @@ use Rattle.tm_timeline.specs.declared.picture.Picture.{Picture}
 use Rattle.tm_timeline.specs.declared.spans.Span.{Span}
 use Rattle.tm_timeline.specs.declared.timeline.Timeline.{Timeline}
 use Rattle.tm_timeline.specs.declared.window.Window.{Window}
-use Rattle.elide_draw.specs.Told.{AreShown, AreTold, HasBar, IsShown, IsToldOf}
+use Rattle.elide_draw.specs.Told.{AreShown, AreTold, HasBar, IsToldOf}
 
 -- ---- two clauses of one answer
 

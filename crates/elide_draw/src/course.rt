@@ -18,7 +18,7 @@ ghost use Rattle.tm_timeline.specs.declared.timeline.Timeline.{Timeline};
 
 use crate::rounds::Rounds;
 use crate::scene::Scene;
-use crate::watch::{Watcher, tell_variables};
+use crate::watch::{Asked, Watcher, tell_variables};
 use elide_device::Progress;
 use elide_setup::{Course, Refusal, Setup, StepMaker, new_machine, shown_memory};
 use std::alloc::{AllocError, Global};
@@ -117,6 +117,7 @@ pub fn watch_course<S: Scene + Drop, G: Progress>(
                 timeline,
                 scene,
                 rounds: Rounds::new(),
+                asked: Asked::nothing(),
             };
             run_watcher(alloc, course, watcher, progress)
         }

@@ -12,6 +12,7 @@
 mod command;
 mod course;
 mod extent;
+mod hits;
 mod line_names;
 mod rounds;
 mod scene;

@@ -1,27 +1,24 @@
 //! A step, and whom it hits: a machine whose steps a timeline is told.
 //!
 //! [`Watcher`] asks the machine before the step what is told of it, by one preview, and only where the picture shows
-//! steps or lines; and whom a drain in its place would hit, where a store is pending. Behind the step the timeline is
-//! told the hits, then the step, what it did, and last the variables: a hit is of transactions that were open before.
-//! Which part is drawn, and how, is the timeline's.
+//! steps or lines; and whom a drain in its place would hit, where a store is pending (`hits`). What is asked is filled
+//! in place. Behind the step the timeline is told the hits, then the step, what it did, and last the variables: a hit
+//! is of transactions that were open before. Which part is drawn, and how, is the timeline's.
 
 ghost use Rattle.std.specs.Prelude.{◌≡◌, ◌∷◌, [], IfOk, OnOk};
 ghost use Rattle.elide_draw.specs.Told.{AreTold};
 ghost use Rattle.elide_setup.specs.Runs.{AreMachineSteps, IsMachineStep};
-ghost use Rattle.tm_core.specs.Previewed.{IsPreview};
 ghost use Rattle.tm_timeline.specs.Told.{SameSteps};
 
+use crate::hits::Hits;
 use crate::rounds::{MadeStep, Rounds};
 use crate::scene::Scene;
 use elide_setup::{Refusal, StepMaker};
 use std::alloc::AllocError;
-use tm_core::{Machine, Preview};
-use tm_model::{CoreState, Hit, Outcome, Pick};
+use tm_core::Machine;
+use tm_model::{CoreState, Outcome, Pick};
 use tm_timeline::Timeline;
 use tm_trace::{Before, Deed};
-
-// How the next step hits each core.
-type Hits = [Option<Hit>; 64];
 
 /// A machine whose steps a timeline is told.
 #[derive(Drop)]
@@ -34,6 +31,8 @@ pub struct Watcher<S> {
     pub scene: S,
     /// In which rounds of loops the cores are.
     pub rounds: Rounds,
+    /// What was asked of the last step: asked anew of each, in place.
+    pub asked: Asked,
 }
 
 impl<S: Scene + Drop> Watcher<S> {
@@ -57,6 +56,7 @@ impl<S: Scene> StepMaker for Watcher<S> {
             &mut self.timeline,
             &self.scene,
             &mut self.rounds,
+            &mut self.asked,
         )
     }
 }
@@ -68,21 +68,16 @@ fn watch_step<S: Scene>(
     timeline: &mut Timeline,
     scene: &S,
     rounds: &mut Rounds,
+    asked: &mut Asked,
 ) -> Result<Outcome, Refusal>
     ensures step { IfOk result (λ outcome. IsMachineStep machine.old pick outcome machine.new) }
     ensures told { IfOk result (λ outcome. AreTold timeline.old ((pick, outcome) ∷ []) timeline.new) }
 {
     let core = pick.core;
-    let asked = ask(machine, core, timeline, scene);
-    // A row of its own, as few steps have one.
-    let drains = drain_hits_of(machine, core, timeline);
+    ask(machine, core, timeline, scene, asked);
     let outcome = machine.make_step(pick)?;
-    let hits = match outcome {
-        Outcome::Drained => &drains,
-        _ => &asked.hits,
-    };
     // Before the step is told: the timeline still has the transactions that were open before it.
-    tell_hits(machine, core, hits, timeline)?;
+    tell_hits(machine, core, asked.hits_by(outcome), timeline)?;
     let step = MadeStep {
         pick,
         outcome,
@@ -93,35 +88,54 @@ fn watch_step<S: Scene>(
     Ok(outcome)
 }
 
-// What is asked of a step before it is made, as far as the picture shows it.
-#[derive(Clone, Copy)]
-struct Asked {
+/// What is asked of a step before it is made, as far as the picture shows it.
+#[derive(Drop)]
+pub struct Asked {
     // What is known of it, where it is described.
     before: Option<Before>,
-    // How it hits each core, where lines are shown and it hits one.
-    hits: Option<Hits>,
+    // How it hits each core, where lines are shown.
+    hits: Hits,
+    // How a drain in its place does.
+    drains: Hits,
+}
+
+impl Asked {
+    /// Of no step yet.
+    pub fn nothing() -> Asked {
+        Asked {
+            before: None,
+            hits: Hits::new(),
+            drains: Hits::new(),
+        }
+    }
+
+    // The hits, once it is known whether a drain came in the place of the step.
+    fn hits_by(&self, outcome: Outcome) -> &Hits {
+        match outcome {
+            Outcome::Drained => &self.drains,
+            _ => &self.hits,
+        }
+    }
 }
 
 // Previews a step where a picture shows it: one that shows steps shows lines. Of a core that is not there nothing is
 // known: its step is refused.
-fn ask<S: Scene>(machine: &Machine, core: u8, timeline: &Timeline, scene: &S) -> Asked {
-    let nothing = Asked {
-        before: None,
-        hits: None,
-    };
+fn ask<S: Scene>(machine: &Machine, core: u8, timeline: &Timeline, scene: &S, asked: &mut Asked) {
+    asked.before = None;
+    asked.hits.none();
+    asked.drains.none();
     if !timeline.shows_lines() {
-        return nothing;
+        return;
     }
     let Ok(preview) = machine.preview(core) else {
-        return nothing;
+        return;
     };
-    Asked {
-        before: if timeline.shows_steps() {
-            Some(scene.before(machine, core, preview.reach))
-        } else {
-            None
-        },
-        hits: hits_of(machine, &preview),
+    if timeline.shows_steps() {
+        asked.before = Some(scene.before(machine, core, preview.reach));
+    }
+    asked.hits.ask(machine, &preview);
+    if machine.stores() > 0 {
+        asked.drains.ask_drain(machine, core);
     }
 }
 
@@ -214,16 +228,20 @@ fn doubleword_at(memory: &[u8], address: u32) -> Option<u32> {
     ]))
 }
 
-// Tells the transactions that were open before the step and are condemned behind it.
+// Tells the transactions that were open before the step and are condemned behind it. Where it was asked whom the step
+// hits, and it hits nobody, there are none.
 #[tactic(auto, using(crate::proofs::Telling::same_self, crate::proofs::Telling::same_more))]
 fn tell_hits(
     machine: &Machine,
     core: u8,
-    hits: &Option<Hits>,
+    hits: &Hits,
     timeline: &mut Timeline,
 ) -> Result<(), AllocError>
     ensures { SameSteps timeline.old timeline.new }
 {
+    if timeline.shows_lines() && !hits.are_some() {
+        return Ok(());
+    }
     for victim in 0..machine.cores() {
         tell_hit(machine, core, victim, hits, timeline)?;
     }
@@ -236,7 +254,7 @@ fn tell_hit(
     machine: &Machine,
     core: u8,
     victim: u8,
-    hits: &Option<Hits>,
+    hits: &Hits,
     timeline: &mut Timeline,
 ) -> Result<(), AllocError>
     ensures { SameSteps timeline.old timeline.new }
@@ -244,45 +262,10 @@ fn tell_hit(
     if !timeline.is_open(victim) || !is_condemned(machine, victim) {
         return Ok(());
     }
-    timeline.hit(victim, core, hit_on(hits, victim))
+    timeline.hit(victim, core, hits.on(victim))
 }
 
 // Whether the transaction of a core is doomed.
 fn is_condemned(machine: &Machine, core: u8) -> bool {
     matches!(machine.state(core), Ok(CoreState::Condemned(_)))
-}
-
-// How the step hit a core, where that was asked.
-fn hit_on(hits: &Option<Hits>, victim: u8) -> Option<Hit> {
-    match hits {
-        Some(hits) if victim < 64 => hits[usize::from(victim)],
-        _ => None,
-    }
-}
-
-// How the previewed step hits each core. None where it hits nobody.
-fn hits_of(machine: &Machine, preview: &Preview) -> Option<Hits>
-    requires { IsPreview machine.now preview.now }
-{
-    if !machine.may_hit(preview) {
-        return None;
-    }
-    let mut hits = [None; 64];
-    for victim in 0..machine.cores() {
-        hits[usize::from(victim)] = machine.hit_by(preview, victim).unwrap();
-    }
-    Some(hits)
-}
-
-// How the oldest pending store of a core hits each core, if it reaches memory now. None where none is pending, and
-// where no line is shown.
-fn drain_hits_of(machine: &Machine, core: u8, timeline: &Timeline) -> Option<Hits> {
-    if !timeline.shows_lines() || machine.pending(core).unwrap_or(&[]).is_empty() {
-        return None;
-    }
-    let mut hits = [None; 64];
-    for victim in 0..machine.cores() {
-        hits[usize::from(victim)] = machine.hit_by_drain(core, victim).unwrap_or(None);
-    }
-    Some(hits)
 }

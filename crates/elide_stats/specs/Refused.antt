@@ -2,7 +2,7 @@
 use Rattle.std.specs.Prelude.{◌≡◌, ℕ, ◌⊎◌, Bool, List, Option, Some, IfSome, length}
 use Rattle.std.specs.Borrow.{Bor}
 use Rattle.elide_args.specs.declared.subcommand.StatsOptions.{StatsOptions}
-use Rattle.elide_program.specs.Settings.{AreSettings}
+use Rattle.elide_program.specs.Settings.{AreSettings, has_store_buffer}
 use Rattle.elide_setup.specs.Refused.{IsAnyWant, IsCourseOf, IsNoCore, IsNoMachine, IsNotScheduled, IsOverProgram}
 use Rattle.elide_setup.specs.Refused.{IsUnrecorded, IsUntold, NamesNoCore, plan_path}
 use Rattle.elide_setup.specs.Schedules.{AreAsked, ArePlanned, listed_in}
@@ -41,7 +41,8 @@ pub data IsNoCount (setup : Setup) (asked : Course) (path : Option (Bor (List �
 pub data IsNotCounted (content : List ℕ → Option (List ℕ)) (options : StatsOptions) (why : Refusal) : Type 0 where
   unscheduled : IsNotScheduled content options.machine options.schedule why → IsNotCounted content options why
   no_count : (setup : Setup) (asked : Course) → IsAsked (content options.machine.file.now) options.machine setup
-      → IsCourseOf content options.schedule asked → IsNoCount setup asked options.record why
+      → IsCourseOf (has_store_buffer options.machine) content options.schedule asked
+      → IsNoCount setup asked options.record why
       → IsNotCounted content options why
 
 -- or the path of `--record` is that of the program
@@ -54,6 +55,6 @@ pub record AreOfOptions (asked : Asked) (plan : Plan) : Type 0 where
   pub settings : AreSettings asked.options.now.machine asked.settings
   pub planned :
       (content : List ℕ → Option (List ℕ)) (picks : List Pick) → ArePlanned content plan picks
-      → AreAsked content asked.options.now.schedule picks
+      → AreAsked (has_store_buffer asked.options.now.machine) content asked.options.now.schedule picks
   pub named : IfSome (plan_path plan) (λ path. asked.options.now.schedule.path ≡ Some path)
   pub recorded : asked.path ≡ asked.options.now.record

@@ -1,11 +1,11 @@
 //! A run whose steps are counted, each behind its making.
 //!
 //! [`Counting`] asks the machine before a step what is gone behind it, of one preview; makes the step, counts first
-//! whom it hit, and then the step itself. A step that is refused is not counted. [`Counting::run_course`] asks for the
-//! schedule's cores before the first step; [`Counting::run_history`] makes those of a board. [`Counting::sort`] is to
-//! come before a report.
+//! whom it hit, and then the step itself. A step that is refused is not counted. Of stores that are pending nothing is
+//! asked where none may be. [`Counting::run_course`] asks for the schedule's cores before the first step;
+//! [`Counting::run_history`] makes those of a board. [`Counting::sort`] is to come before a report.
 
-ghost use Rattle.std.specs.Prelude.{◌≡◌, [], IfErr, IfOk, List, length};
+ghost use Rattle.std.specs.Prelude.{◌≡◌, ◌<◌, [], IfErr, IfOk, List, length};
 ghost use Rattle.elide_setup.specs.Recorded.{IsRecorded};
 ghost use Rattle.elide_setup.specs.Runs.{AreMachineSteps};
 ghost use Rattle.elide_setup.specs.Schedules.{AreOf, picks_made, picks_told, schedule_made};
@@ -21,15 +21,15 @@ ghost use Rattle.elide_stats.specs.Refused.{IsUncounted, IsUncountedStep};
 
 use crate::asked::Asked;
 use crate::hits::{CoreBytes, Hits};
-use crate::stores::Stores;
 use elide_device::Progress;
 use elide_program::Paths;
 use elide_setup::{Course, Fault, Refusal, StepMaker, walk_history};
 use std::alloc::{AllocError, Global};
-use tm_core::{Machine, RunFault};
+use tm_core::{Buffering, Machine, RunFault};
 use tm_hist::Board;
 use tm_model::{Outcome, Pick};
 use tm_stats::{AbortCause, ByteStep, Conflicts, RunCounts};
+use tm_stores::{Change, MadeStore, Stores};
 
 /// A machine, with the counts of the steps that it made.
 #[derive(Drop)]
@@ -66,21 +66,20 @@ impl StepMaker for Counting {
         };
         let asked = Asked::before(&self.machine, core, preview.reason);
         self.hits.ask(&self.machine, &preview);
-        self.hits
-            .ask_drain(&self.machine, core, self.stores.oldest(core));
-        let before = self.stores.count(core);
+        let pends = ask_stores(&self.machine, core, &self.stores, &mut self.hits);
         let outcome = self.machine.make_step(pick)?;
-        let pending = pending_of(&self.machine, core);
         count_hits(
             &mut self.conflicts,
             &mut self.bytes,
             core,
             &self.hits,
-            self.hits.step(outcome, pending > before),
+            self.hits.step(outcome, pends),
         )?;
-        if self.stores.record(core, preview.eip, pending).is_err() {
-            return Err(no_memory());
-        }
+        let store = MadeStore {
+            step: self.counts.steps.saturating_add(1),
+            eip: preview.eip,
+        };
+        keep_stores(&mut self.stores, core, outcome, pends, store);
         match self.counts.note(asked.step(core, outcome)) {
             Ok(()) => Ok(outcome),
             Err(_) => Err(no_memory()),
@@ -98,7 +97,8 @@ impl Counting {
         let Ok(bytes) = CoreBytes::new(alloc, machine.cores()) else {
             return Err(no_memory());
         };
-        let Ok(stores) = Stores::new(alloc, machine.cores()) else {
+        let most = u32::from(machine.stores());
+        let Ok(stores) = Stores::new(alloc, machine.cores(), most) else {
             return Err(no_memory());
         };
         Ok(Counting {
@@ -173,11 +173,22 @@ impl Counting {
     }
 }
 
-// How many stores of a core are pending.
-fn pending_of(machine: &Machine, core: u8) -> usize {
-    match machine.pending(core) {
-        Ok(stores) => stores.len(),
-        Err(_) => 0,
+// Asks a machine before a step of this core whom a drain in its place would hit, and whether the step's own store is
+// pending behind it. Where no store may be pending, neither is asked.
+fn ask_stores(machine: &Machine, core: u8, stores: &Stores, hits: &mut Hits) -> bool
+    requires { core < length machine.now.views }
+{
+    if !stores.may_pend() {
+        return false;
+    }
+    hits.ask_drain(machine, core, stores.oldest(core));
+    matches!(machine.ahead(core), Ok(Buffering::Pends))
+}
+
+// Keeps which steps made the stores of this core that are pending behind its step, where any may be.
+fn keep_stores(stores: &mut Stores, core: u8, outcome: Outcome, pends: bool, store: MadeStore) {
+    if stores.may_pend() {
+        stores.record(core, Change::by(outcome, pends, store));
     }
 }
 

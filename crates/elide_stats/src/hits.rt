@@ -16,6 +16,7 @@ use std::alloc::{AllocError, Global};
 use tm_core::{Machine, Preview};
 use tm_model::{Outcome, Reach};
 use tm_stats::{ByteStep, Conflict, OpenBytes};
+use tm_stores::MadeStore;
 
 /// The most cores of a machine.
 const MOST_CORES: usize = 64;
@@ -67,8 +68,8 @@ impl Hits {
     }
 
     /// Asks a machine before the same step for the hits of a drain in its place: of the oldest pending store of the
-    /// core, which the instruction at this address made, where there is one.
-    pub fn ask_drain(&mut self, machine: &Machine, core: u8, by: Option<u32>)
+    /// core, where there is one, which this one is.
+    pub fn ask_drain(&mut self, machine: &Machine, core: u8, by: Option<MadeStore>)
         requires { core < length machine.now.views }
     {
         self.drains.clear();
@@ -82,7 +83,7 @@ impl Hits {
         };
         for victim in 0..machine.cores() {
             if let Some(hit) = machine.hit_by_drain(core, victim).unwrap() {
-                let conflict = conflict_of(machine, by, victim, hit.line, hit.kind);
+                let conflict = conflict_of(machine, by.eip, victim, hit.line, hit.kind);
                 let _ = self.drains.try_push((victim, conflict));
             }
         }

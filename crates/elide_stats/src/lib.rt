@@ -12,8 +12,9 @@
 //! are called, and the JSON are compared by `doc_tests`.
 //!
 //! Steps are made and counted first, then the counts are sorted, then the report is made of them and printed; the
-//! report makes no step. Stands on `elide_setup`, `tm_core` and `tm_stats`, on `tm_hist` for histories, on
-//! `elide_program` for the symbols of a program and on `elide_places` for how they are shown.
+//! report makes no step. Stands on `elide_setup`, `tm_core` and `tm_stats`, on `tm_stores` for the stores that are
+//! pending, on `tm_hist` for histories, on `elide_program` for the symbols of a program and on `elide_places` for how
+//! they are shown.
 #![tactic(auto)]
 
 mod asked;
@@ -24,7 +25,6 @@ mod hits;
 mod json;
 mod labels;
 mod report;
-mod stores;
 mod told;
 
 pub use columns::put_columns;

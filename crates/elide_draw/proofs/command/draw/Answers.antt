@@ -7,7 +7,7 @@ use Rattle.elide_program.specs.Settings.{AreSettings}
 use Rattle.elide_program.specs.declared.file.ProgramFile.{ProgramFile}
 use Rattle.elide_program.specs.declared.settings.Settings.{Settings}
 use Rattle.elide_setup.specs.Made.{HasRun, HasRunPlan}
-use Rattle.elide_setup.specs.Schedules.{form_asked, plan_form}
+use Rattle.elide_setup.specs.Schedules.{AreAsked, form_asked, plan_form}
 use Rattle.elide_draw.proofs.command.draw.Goals as goal
 
 pub returns-in-Ok : goal.returns-in-Ok
@@ -32,7 +32,8 @@ returns-in-Ok g c =
     (subst (λ (held : Option (List ℕ)). IsRead held made.0) (c.record_path.ensures.kept options.machine.file.now)
     (subst (λ (file : Bor (List ℕ)). IsRead (next file.now) made.0) c.in-Ok.ensures.file made.2))
     said
-    (λ picks. c.in_ok-plan.ensures.steps content picks)
+    (λ picks are. subst (λ (drains : Bool). AreAsked drains content options.schedule picks)
+    c.has_store_buffer-drains.ensures (c.in_ok-plan.ensures.steps content picks are))
     (subst (λ (drains : Bool). plan_form c.in_ok-plan.plan ≡ form_asked drains options.schedule)
     c.has_store_buffer-drains.ensures c.in_ok-plan.ensures.listed) made.4))
     c.draw_plan.ensures

@@ -6,7 +6,7 @@ use Rattle.elide_program.specs.ProgramFile.{IsRead}
 use Rattle.elide_program.specs.declared.file.ProgramFile.{ProgramFile}
 use Rattle.elide_setup.specs.Made.{HasRun, HasRunPlan}
 use Rattle.elide_setup.specs.Refused.{misplanned, misread, no_setup}
-use Rattle.elide_setup.specs.Schedules.{form_asked}
+use Rattle.elide_setup.specs.Schedules.{AreAsked, form_asked}
 use Rattle.elide_stats.specs.Refused.{IsNotCounted, IsRefused, unscheduled}
 use Rattle.elide_stats.proofs.command.stats.Goals as goal
 
@@ -28,7 +28,8 @@ returns-clause-ran g c =
     (subst (λ (held : Option (List ℕ)). IsRead held made.0)
     (c.record_path.ensures.kept options.machine.file.now) made.2)
     c.in_ok-settings.ensures.settings
-    (λ picks. c.in_ok-plan.ensures.steps content picks)
+    (λ picks are. subst (λ (drains : Bool). AreAsked drains content options.schedule picks) c.has_store_buffer.ensures
+    (c.in_ok-plan.ensures.steps content picks are))
     (c.in_ok-plan.ensures.listed
     ∙ ap (λ (drains : Bool). form_asked drains options.schedule) c.has_store_buffer.ensures) made.4))
     c.stats_of_path.ensures.ran
@@ -36,7 +37,9 @@ returns-clause-ran g c =
 pub stats_of_path-requires : goal.stats_of_path-requires
 stats_of_path-requires g c = record {
   settings = c.in_ok-settings.ensures.settings;
-  planned = c.in_ok-plan.ensures.steps;
+  planned = λ content picks are.
+      subst (λ (drains : Bool). AreAsked drains content c.args.options.now.schedule picks) c.has_store_buffer.ensures
+      (c.in_ok-plan.ensures.steps content picks are);
   named = c.in_ok-plan.ensures.path;
   recorded = c.in_ok-path.ensures.given;
 }

@@ -1,4 +1,4 @@
-use Rattle.std.proofs.Common.{arith, refl}
+use Rattle.std.proofs.Common.{arith}
 use Rattle.elide_stats.specs.Rows.{steps_of_size}
 use Rattle.elide_stats.proofs.RowsMore.{entry_at, sum_all, sum_more}
 use Rattle.elide_stats.proofs.report.committed_steps.Goals as goal
