@@ -2,7 +2,7 @@
 use Rattle.std.proofs.Common.{◌≡◌, ◌≤◌, ℕ, List, Option, Some, None, refl, subst, sym}
 use Rattle.std.proofs.Math.Nat.{le_trans}
 use Rattle.std.proofs.lemmas.Result.{IfOk-weaker}
-use Rattle.std.specs.Prelude.{IfOk, IfSome, Result}
+use Rattle.std.specs.Prelude.{All, IfOk, IfSome, Result}
 use Rattle.elide_args.specs.declared.hunt_options.HuntOptions.{HuntOptions}
 use Rattle.elide_checks.specs.Checks.{AreChecks}
 use Rattle.elide_checks.specs.declared.orders.Orders.{Orders}
@@ -25,6 +25,7 @@ use Rattle.tm_hunt.specs.declared.searching.Found.{Found}
 use Rattle.tm_hunt.specs.declared.searching.Search.{Search}
 use Rattle.tm_hunt.specs.declared.trial.Trial.{Trial}
 use Rattle.elide_hunt.specs.Printed.{AreOrders, AreShortened, IsHunted, IsPlanOf, IsSearched as Searched, IsTrialOf}
+use Rattle.elide_hunt.specs.Lates.{IsLate}
 use Rattle.elide_hunt.specs.Lines.{counts_of}
 use Rattle.elide_hunt.specs.declared.report.Beside.{Beside}
 
@@ -64,9 +65,10 @@ pub shortened_hunt : (trial : Trial) (orders : Orders) (beside : Beside) (search
     search.found ≡ Some found → IsSearched trial orders search → beside.before ≡ counts_of found.failure.picks.items →
     IsFailure trial after → after.check ≡ found.failure.check → cost_told after ≤ cost_told found.failure →
     KeepsKinds found.failure.picks.items after.picks.items → IfSome beside.cycle (IsCycle trial after) →
+    All (IsLate trial after) beside.lates.items →
     IsHunted trial orders beside
     (record { found = Some (record { run = found.run; failure = after }); ended = search.ended; cut = search.cut })
-shortened_hunt trial orders beside search found after is searched counted fails same simpler keeps round = record {
+shortened_hunt trial orders beside search found after is searched counted fails same simpler keeps round late = record {
   plan = searched.0;
   planned = searched.1;
   whole = search;
@@ -83,6 +85,7 @@ shortened_hunt trial orders beside search found after is searched counted fails 
           simpler = le_trans simpler (cost_front found.failure.front found.failure.picks.items);
           kinds = keeps;
           round = round;
+          lates = late;
         },
       );
 }

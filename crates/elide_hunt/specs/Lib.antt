@@ -1,6 +1,7 @@
 pub mod Shares
 pub mod Again
 pub mod Cycles
+pub mod Lates
 pub mod Lines
 pub mod Object
 pub mod Sent

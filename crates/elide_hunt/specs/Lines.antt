@@ -3,6 +3,7 @@ use Rattle.std.specs.Prelude.{ℕ, ◌+◌, ◌-◌, nat_eq, nat_le, nat_lt, Boo
 use Rattle.std.specs.Prelude.{Option, Some, None, if◌then◌else◌}
 use Rattle.std.specs.Borrow.{Bor}
 use Rattle.std.specs.Fmt.{decimal}
+use Rattle.std.specs.List.{flat_map}
 use Rattle.elide_args.specs.declared.hunt_options.HuntOptions.{HuntOptions}
 use Rattle.elide_shell.specs.Options.{machine_text, schedule_text}
 use Rattle.elide_shell.specs.Shell.{path_word}
@@ -12,6 +13,7 @@ use Rattle.tm_hunt.specs.Cost.{events_in, switches_of}
 use Rattle.tm_hunt.specs.Deciding.{deciding}
 use Rattle.elide_hunt.specs.Again.{hunt_command}
 use Rattle.elide_hunt.specs.Cycles.{cycle_text}
+use Rattle.elide_hunt.specs.Lates.{late_line}
 use Rattle.tm_hunt.specs.declared.searching.Found.{Found}
 use Rattle.tm_hunt.specs.declared.searching.Search.{Search}
 use Rattle.elide_hunt.specs.declared.report.Beside.{Beside}
@@ -93,14 +95,15 @@ told_line options run picks = told_command options run picks ++ line_end
 unfoldable pub run_front : ℕ → List ℕ
 run_front run = codes "run " ++ decimal run ++ codes " fails "
 
--- a run fails: the check, how long its schedule was and is, how much of it decides, the loop that it comes to, and the
--- command that replays what decides
+-- a run fails: the check, how long its schedule was and is, how much of it decides, the loop that it comes to, its
+-- stores that are late past a load, and the command that replays what decides
 abbrev pub failure_text : HuntOptions → Beside → Found → List ℕ
 failure_text options beside found =
     run_front found.run ++ (check_text options found.failure.check
     ++ (counts_line beside.before (counts_of found.failure.picks.items) found.failure.front
     ++ (cycle_text found.failure.picks.items beside.cycle
-    ++ told_line options found.run (deciding found.failure))))
+    ++ (flat_map late_line beside.lates.items
+    ++ told_line options found.run (deciding found.failure)))))
 
 -- what a search came to
 abbrev pub search_lines : HuntOptions → Beside → ℕ → ℕ → Option Found → List ℕ

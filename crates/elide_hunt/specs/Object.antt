@@ -1,9 +1,11 @@
 -- The object that `elide hunt --json` prints (docs/JSON.md, "hunt").
-use Rattle.std.specs.Prelude.{ℕ, ◌-◌, nat_lt, List, codes, length, Option, Some, None, if◌then◌else◌, slice_get}
+use Rattle.std.specs.Prelude.{ℕ, ◌-◌, nat_lt, Bool, true, false, List, codes, length, Option, Some, None, slice_get}
+use Rattle.std.specs.Prelude.{if◌then◌else◌}
 use Rattle.std.specs.Borrow.{Bor}
 use Rattle.elide_args.specs.declared.hunt_options.HuntOptions.{HuntOptions}
-use Rattle.elide_object.specs.Object.{number_value, schedule_value}
-use Rattle.serde_json.specs.Data.{Data, member, no_members, null, object, string}
+use Rattle.elide_object.specs.Object.{list_value, number_value, schedule_value}
+use Rattle.elide_program.specs.Settings.{has_store_buffer}
+use Rattle.serde_json.specs.Data.{Data, Members, member, no_members, null, object, string}
 use Rattle.tm_model.specs.declared.outcome.Pick.{Pick}
 use Rattle.tm_hunt.specs.Cycle.{loop_of}
 use Rattle.tm_hunt.specs.Deciding.{deciding}
@@ -11,6 +13,7 @@ use Rattle.tm_hunt.specs.declared.cycle.Cycle.{Cycle}
 use Rattle.tm_hunt.specs.declared.searching.Found.{Found}
 use Rattle.tm_hunt.specs.declared.searching.Search.{Search}
 use Rattle.elide_hunt.specs.Lines.{counts_of, told_command}
+use Rattle.elide_hunt.specs.declared.late.Late.{Late}
 use Rattle.elide_hunt.specs.declared.report.Beside.{Beside}
 use Rattle.elide_hunt.specs.declared.report.Counts.{Counts}
 
@@ -59,8 +62,22 @@ abbrev pub cycle_value : List Pick → Option Cycle → Data
 cycle_value picks None = null
 cycle_value picks (Some cycle) = told_cycle cycle (loop_of picks cycle)
 
+-- a store that is late past a load: its core, their steps, counted from 1, and the addresses of their instructions
+abbrev pub late_value : Late → Data
+late_value late =
+    object (member (codes "core") (number_value late.core)
+    (member (codes "stored") (number_value late.stored)
+    (member (codes "store") (number_value late.store_eip)
+    (member (codes "loaded") (number_value late.loaded)
+    (member (codes "load") (number_value late.load_eip) no_members)))))
+
+-- those of a run, where stores may be pending
+abbrev pub lates_then : Bool → List Late → Members → Members
+lates_then true lates rest = member (codes "delayed") (list_value late_value lates) rest
+lates_then false lates rest = rest
+
 -- the run that failed: its check, how long its schedule was and is, how many of its steps decide, these, the loop that
--- it comes to, and the command that replays what decides or makes the run again
+-- it comes to, its stores that are late, and the command that replays what decides or makes the run again
 abbrev pub failure_value : HuntOptions → Beside → List ℕ → Found → Data
 failure_value options beside replay found =
     object (member (codes "run") (number_value found.run)
@@ -70,7 +87,8 @@ failure_value options beside replay found =
     (member (codes "deciding") (number_value found.failure.front)
     (member (codes "schedule") (schedule_value (deciding found.failure))
     (member (codes "cycle") (cycle_value found.failure.picks.items beside.cycle)
-    (member (codes "replay") (string replay) no_members))))))))
+    (lates_then (has_store_buffer options.machine) beside.lates.items
+    (member (codes "replay") (string replay) no_members)))))))))
 
 abbrev pub found_value : HuntOptions → Beside → Option Found → Data
 found_value options beside None = null

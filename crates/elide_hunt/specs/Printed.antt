@@ -1,5 +1,5 @@
 -- What `elide hunt` prints (docs/FORMATS.md, "Checks"), and of which search.
-use Rattle.std.specs.Prelude.{◌≡◌, ◌≤◌, ⊤, ℕ, false, true, List, Option, Some, None, IfSome}
+use Rattle.std.specs.Prelude.{◌≡◌, ◌≤◌, ⊤, ℕ, false, true, All, List, Option, Some, None, IfSome}
 use Rattle.std.specs.Io.KnownBytes.{Appends}
 use Rattle.std.specs.Option.{option_copied}
 use Rattle.elide_args.specs.declared.hunt_options.HuntOptions.{HuntOptions}
@@ -25,6 +25,7 @@ use Rattle.tm_hunt.specs.declared.failure.Failure.{Failure}
 use Rattle.tm_hunt.specs.declared.searching.Found.{Found}
 use Rattle.tm_hunt.specs.declared.searching.Search.{Search}
 use Rattle.tm_hunt.specs.declared.trial.Trial.{Trial}
+use Rattle.elide_hunt.specs.Lates.{IsLate}
 use Rattle.elide_hunt.specs.Lines.{counts_of, search_text}
 use Rattle.elide_hunt.specs.Object.{search_value}
 use Rattle.elide_hunt.specs.declared.command.Answer.{Answer}
@@ -43,7 +44,8 @@ pub record IsTold (options : HuntOptions) (beside : Beside) (search : Search) (a
   pub object : options.is_json ≡ true → Appends before after (object_text (search_value options beside search))
 
 -- the schedule of a run that failed was made simpler: it still violates the same check, its events are of the kinds
--- that were there; how long it was, and the loop that it comes to for ever, where one is told
+-- that were there; how long it was, the loop that it comes to for ever, where one is told, and stores of it that are
+-- late past a load, of the steps that decide
 pub record IsShortened (trial : Trial) (beside : Beside) (whole failure : Failure) : Type 0 where
   pub fails : IsFailure trial failure
   pub same : failure.check ≡ whole.check
@@ -51,6 +53,7 @@ pub record IsShortened (trial : Trial) (beside : Beside) (whole failure : Failur
   pub simpler : cost_told failure ≤ cost_of whole.picks.items
   pub kinds : KeepsKinds whole.picks.items failure.picks.items
   pub round : IfSome beside.cycle (IsCycle trial failure)
+  pub lates : All (IsLate trial failure) beside.lates.items
 
 -- of the first run that failed, if any
 abbrev pub AreShortened : Trial → Beside → Option Found → Option Found → Type 0

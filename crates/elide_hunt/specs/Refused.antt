@@ -1,5 +1,5 @@
 -- Why `elide hunt` is refused (docs/FAULTS.md).
-use Rattle.std.specs.Prelude.{◌≡◌, ℕ, Bool, true, All, List, Option, Some, codes, is_some, length}
+use Rattle.std.specs.Prelude.{◌≡◌, ℕ, Bool, All, List, Option, Some, length}
 use Rattle.std.specs.Borrow.{Bor}
 use Rattle.std.specs.Option.{option_copied}
 use Rattle.elide_args.specs.declared.hunt_options.HuntOptions.{HuntOptions}
@@ -9,9 +9,7 @@ use Rattle.elide_checks.specs.Refused.{AreNoDemands, AreNoOrders}
 use Rattle.elide_checks.specs.declared.demands.Demands.{Demands}
 use Rattle.elide_checks.specs.declared.orders.Orders.{Orders}
 use Rattle.elide_program.specs.ProgramFile.{IsRead}
-use Rattle.elide_program.specs.Settings.{has_store_buffer}
 use Rattle.elide_program.specs.declared.file.ProgramFile.{ProgramFile}
-use Rattle.elide_setup.specs.Misuse.{IsMisuse}
 use Rattle.elide_setup.specs.Refused.{HasNoSetup, IsAnyWant, IsNotPaged, IsOverProgram, IsPageOver, IsUnrecorded}
 use Rattle.elide_setup.specs.Refused.{IsUntold}
 use Rattle.elide_setup.specs.Setup.{IsAsked}
@@ -64,12 +62,10 @@ pub record IsUnpaged (content : List ℕ → Option (List ℕ)) (options : HuntO
 
 -- ---- the command
 
--- a page is asked for where stores may be pending, an option is misused, there is no program by the options, no check
--- or no search of it, or what the search came to is not recorded, not shown on a page or not printed
+-- an option is misused, there is no program by the options, no check or no search of it, or what the search came to is
+-- not recorded, not shown on a page or not printed
 pub data IsRefused (content : List ℕ → Option (List ℕ)) (are_one : List ℕ → List ℕ → Option Bool)
     (options : HuntOptions) (why : Refusal) : Type 0 where
-  page_of_drains : is_some options.page ≡ true → has_store_buffer options.machine ≡ true → IsMisuse (codes "--page") why
-      → IsRefused content are_one options why
   misordered : AreNoOrders options why → IsRefused content are_one options why
   over_program : IsOverProgram are_one options.record options.machine.file.now why
       → IsRefused content are_one options why

@@ -1,12 +1,12 @@
 //! `elide hunt`: [`hunt`] is the one call.
 //!
-//! `--page` is refused first where stores may be pending: a page shows each store in memory at the step that makes it.
-//! Then faults come in this order: the machine's options, those of the search, `--record`, `--page`, FILE, the program,
-//! the checks, its loading, what the checks look at, the runs. A run that failed is shortened, and its loop looked for;
-//! then its page is written, its record, and last the lines or the object. A page that cannot be written is told behind
-//! them. Runs are drawn by `tm_pick`, made and shortened by `tm_hunt`.
+//! Faults come in this order: the machine's options, those of the search, `--record`, `--page`, FILE, the program, the
+//! checks, its loading, what the checks look at, the runs. A run that failed is shortened, and its loop looked for and
+//! its stores that are late; then its page is written, its record, and last the lines or the object. A page that cannot
+//! be written is told behind them. Where none failed, a person at a terminal is told of store buffers, if the program's
+//! stores may be pending. Runs are drawn by `tm_pick`, made and shortened by `tm_hunt`.
 
-ghost use Rattle.std.specs.Prelude.{◌≡◌, ◌≤◌, ℕ, Bool, IfErr, IfOk, IfSome, List, OnOk, Option, Some};
+ghost use Rattle.std.specs.Prelude.{◌≡◌, ◌≤◌, ℕ, All, Bool, IfErr, IfOk, IfSome, List, OnOk, Option, Some};
 ghost use Rattle.std.specs.Borrow.{Bor};
 ghost use Rattle.std.specs.Io.KnownBytes.{Appends};
 ghost use Rattle.elide_args.specs.declared.hunt_options.HuntOptions.{HuntOptions};
@@ -29,25 +29,33 @@ ghost use Rattle.tm_hunt.specs.declared.searching.Found.{Found};
 ghost use Rattle.tm_hunt.specs.declared.trial.Trial.{Trial};
 ghost use Rattle.tm_pick.specs.declared.method.Plan.{Plan};
 ghost use Rattle.elide_object.specs.Object.{object_text};
+ghost use Rattle.elide_hunt.specs.Lates.{IsLate};
 ghost use Rattle.elide_hunt.specs.Lines.{search_text};
 ghost use Rattle.elide_hunt.specs.Object.{search_value};
 ghost use Rattle.elide_hunt.specs.Refused.{IsNoSearch, IsNotHunted, IsRefused};
 ghost use Rattle.elide_hunt.specs.Printed.{AreOrders, IsHunted, IsPlanOf, IsPrinted, IsTold, IsTrialOf, answer_of};
 
 use crate::fault::fault_of;
+use crate::late::{Late, Source, Told};
 use crate::object::tell_object;
 use crate::report::{Beside, counts_of, tell_lines};
 use crate::searching::search_runs;
 use elide_args::HuntOptions;
 use elide_checks::{Demands, Orders};
 use elide_device::{Gathered, Progress};
-use elide_program::{Paths, ProgramFile, Settings, has_store_buffer, read_file};
+use elide_program::{Paths, ProgramFile, Settings, read_file};
 use elide_setup::{Paged, Pages, Refusal, Setup, page_path, record, record_path};
 use std::alloc::Global;
 use std::thread::Threads;
 use text_out::Out;
-use tm_hunt::{Cycle, Failure, Found, Search, Trial, find_cycle, shorten, usual_length};
+use tm_hunt::{
+    Cycle, Failure, Found, Search, Trial, find_cycle, finds_pending, shorten, usual_length,
+};
 use tm_pick::Plan;
+
+/// What is told of a program whose stores may be delayed, where no run failed without that.
+const HINT: &str =
+    "stores outside of transactions may be delayed on a processor: try --store-buffer 4";
 
 /// What a search came to.
 #[derive(Clone, Copy, PartialEq, Eq)]
@@ -74,8 +82,6 @@ impl Answer {
 /// page where that is asked for, and prints what came about. Answers whether a run failed and what became of its page,
 /// and gives the device back. Where the page cannot be written that is the refusal, and what came about is printed
 /// before.
-///
-/// [`Refusal::Usage`] of `--page`, where stores may be pending.
 pub fn hunt<R: Threads + Sync + AllocGlobal, P: Paths, O: Out + Drop, G: Progress, W: Pages>(
     rt: &R,
     options: &HuntOptions<'_>,
@@ -88,9 +94,6 @@ pub fn hunt<R: Threads + Sync + AllocGlobal, P: Paths, O: Out + Drop, G: Progres
         (O.device out).contents (O.device r.2).contents) }
     ensures refused { IfErr result (IsRefused (P.content paths.old) (P.are_one paths.old) options.now) }
 {
-    if options.page.is_some() && has_store_buffer(&options.machine) {
-        return Err(Refusal::Usage("--page"));
-    }
     let settings = Settings::read(&options.machine)?;
     let orders = Orders::read(rt, options)?;
     let path = record_path(options.record, options.machine.file, paths)?;
@@ -109,7 +112,7 @@ pub fn hunt<R: Threads + Sync + AllocGlobal, P: Paths, O: Out + Drop, G: Progres
     let paged = write_page(rt.alloc(), ended, page, pages, paths);
     drop(text);
     write_record(&search, path, paths)?;
-    let (answer, out) = tell(rt.alloc(), options, &search, beside, out)?;
+    let (answer, out) = tell(rt.alloc(), options, &search, &beside, out)?;
     Ok((answer, paged?, out))
 }
 
@@ -160,10 +163,10 @@ fn tell<O: Out + Drop>(
     alloc: Global,
     options: &HuntOptions<'_>,
     search: &Search,
-    beside: Beside,
+    beside: &Beside,
     out: O,
 ) -> Result<(Answer, O), Refusal>
-    ensures told { IfOk result (λ r. IsTold options.now beside search.now r.0
+    ensures told { IfOk result (λ r. IsTold options.now beside.now search.now r.0
         (O.device out).contents (O.device r.1).contents) }
     ensures refused { IfErr result IsUntold }
 {
@@ -181,11 +184,11 @@ fn put_object<O: Out + Drop>(
     alloc: Global,
     options: &HuntOptions<'_>,
     search: &Search,
-    beside: Beside,
+    beside: &Beside,
     out: O,
 ) -> Result<O, Refusal>
     ensures told { IfOk result (λ given. Appends (O.device out).contents (O.device given).contents
-        (object_text (search_value options.now beside search.now))) }
+        (object_text (search_value options.now beside.now search.now))) }
     ensures refused { IfErr result IsUntold }
 {
     let mut page = Gathered::new(out);
@@ -198,11 +201,11 @@ fn put_object<O: Out + Drop>(
 fn put_lines<O: Out + Drop>(
     options: &HuntOptions<'_>,
     search: &Search,
-    beside: Beside,
+    beside: &Beside,
     out: O,
 ) -> Result<O, Refusal>
     ensures told { IfOk result (λ given. Appends (O.device out).contents (O.device given).contents
-        (search_text options.now beside search.now)) }
+        (search_text options.now beside.now search.now)) }
     ensures refused { IfErr result IsUntold }
 {
     let mut page = Gathered::new(out);
@@ -233,7 +236,15 @@ fn hunt_text<R: Threads + Sync + AllocGlobal, G: Progress>(
     let file = ProgramFile::read(alloc, text)?;
     let demands = Demands::read(alloc, options, text, &file)?;
     let setup = Setup::of_file(alloc, settings, &file)?;
-    let made = hunt_setup(rt, &demands, &setup, orders, progress);
+    let source = Source {
+        path: options.machine.file,
+        text,
+        file: &file,
+    };
+    let made = hunt_setup(rt, &demands, &setup, orders, source, progress);
+    if let Ok((search, _beside)) = &made {
+        hint(alloc, options, &setup, orders, search, progress);
+    }
     drop(setup);
     drop(demands);
     drop(file);
@@ -246,6 +257,7 @@ fn hunt_setup<R: Threads + Sync + AllocGlobal, G: Progress>(
     demands: &Demands,
     setup: &Setup,
     orders: &Orders,
+    source: Source<'_, '_, '_>,
     progress: &mut G,
 ) -> Result<(Search, Beside), Refusal>
     ensures hunted { (text : List ℕ) (file : ProgramFile) (options : HuntOptions) →
@@ -263,14 +275,41 @@ fn hunt_setup<R: Threads + Sync + AllocGlobal, G: Progress>(
         most: orders.most,
         checks,
     };
-    hunt_trial(rt, &trial, orders, progress)
+    hunt_trial(rt, &trial, orders, source, progress)
 }
 
-// A search whose schedule is shortened, with how long it was before and the loop that it comes to.
+// Tells a person at a terminal that stores may be delayed, where a search that did not ask for that found no failure of
+// a program that makes such stores.
+fn hint<G: Progress>(
+    alloc: Global,
+    options: &HuntOptions<'_>,
+    setup: &Setup,
+    orders: &Orders,
+    search: &Search,
+    progress: &mut G,
+) {
+    if search.found.is_some() || options.machine.store_buffer.is_some() {
+        return;
+    }
+    let most = orders.most;
+    let trial = Trial {
+        program: &setup.program,
+        limits: setup.limits,
+        most,
+        checks: &[],
+    };
+    if finds_pending(alloc, &trial) {
+        progress.hint(HINT);
+    }
+}
+
+// A search whose schedule is shortened, with how long it was before, the loop that it comes to, and the stores of it
+// that are late.
 fn hunt_trial<R: Threads + Sync + AllocGlobal, G: Progress>(
     rt: &R,
     trial: &Trial<'_>,
     orders: &Orders,
+    source: Source<'_, '_, '_>,
     progress: &mut G,
 ) -> Result<(Search, Beside), Refusal>
     ensures hunted { IfOk result (λ made. IsHunted trial.now orders.now made.1 made.0) }
@@ -282,14 +321,21 @@ fn hunt_trial<R: Threads + Sync + AllocGlobal, G: Progress>(
         let beside = Beside {
             before: counts_of(&[]),
             cycle: None,
+            lates: Vec::new(rt.alloc()),
         };
         return Ok((Search { found, ended, cut }, beside));
     };
     let before = counts_of(failure.picks.as_slice());
     shorten_failure(rt.alloc(), trial, &mut failure)?;
     let cycle = cycle_of(rt.alloc(), trial, &failure)?;
+    let lates = lates_of(rt.alloc(), trial, &failure, source)?;
     let found = Some(Found { run, failure });
-    Ok((Search { found, ended, cut }, Beside { before, cycle }))
+    let beside = Beside {
+        before,
+        cycle,
+        lates,
+    };
+    Ok((Search { found, ended, cut }, beside))
 }
 
 // Makes the runs.
@@ -338,6 +384,26 @@ fn cycle_of(alloc: Global, trial: &Trial<'_>, failure: &Failure) -> Result<Optio
 {
     match find_cycle(alloc, trial, failure) {
         Ok(found) => Ok(found),
+        Err(fault) => Err(Refusal::Fault(fault_of(fault))),
+    }
+}
+
+// Looks for the stores of a run that are late past a load.
+fn lates_of(
+    alloc: Global,
+    trial: &Trial<'_>,
+    failure: &Failure,
+    source: Source<'_, '_, '_>,
+) -> Result<Vec<Late>, Refusal>
+    ensures late { IfOk result (λ lates. All (IsLate trial.now failure.now) lates.items) }
+    ensures refused { IfErr result (IsNotHunted trial.now) }
+{
+    let told = Told {
+        trial: *trial,
+        failure,
+    };
+    match told.lates(alloc, source) {
+        Ok(lates) => Ok(lates),
         Err(fault) => Err(Refusal::Fault(fault_of(fault))),
     }
 }

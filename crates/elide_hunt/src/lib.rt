@@ -6,7 +6,8 @@
 //! says (`specs/Printed.antt`): that all of these runs were made, one for each number, and none fails, with how many
 //! ended and how many reached the limit; or the number of the first that failed, behind runs that do not, the option of
 //! the check that it violates, how long its schedule was and is, the loop that it comes to for ever, where one is told,
-//! and the command that replays a schedule which violates that check, or with `--json` the object of the same
+//! its stores that were pending when their core loaded from memory, of the steps that decide, as they are told, and the
+//! command that replays a schedule which violates that check, or with `--json` the object of the same
 //! (`specs/Object.antt`); and that the file that the schedule is recorded in, where its content is told, is left with
 //! just the steps of it that decide, which are all of them where it did not reach the limit. Each run is the one of its
 //! number: its cores and its events are drawn by the method that the number gives, from the generators of the seed and
@@ -21,6 +22,7 @@ mod block;
 mod command;
 mod cycle;
 mod fault;
+mod late;
 mod object;
 mod replay;
 mod report;

@@ -28,11 +28,11 @@ pub fn tell_object<O: Out>(
     alloc: Global,
     options: &HuntOptions<'_>,
     search: &Search,
-    beside: Beside,
+    beside: &Beside,
     out: &mut O,
 ) -> Result<(), Refusal>
     ensures written { OnOk result (Appends (O.device out.old).contents (O.device out.new).contents
-        (object_text (search_value options.now beside search.now))) }
+        (object_text (search_value options.now beside.now search.now))) }
     ensures refused { IfErr result IsUntold }
 {
     match search_line(alloc, options, search, beside) {
@@ -48,9 +48,9 @@ fn search_line(
     alloc: Global,
     options: &HuntOptions<'_>,
     search: &Search,
-    beside: Beside,
+    beside: &Beside,
 ) -> Result<String, AllocError>
-    ensures { IfOk result (λ line. string_bytes line ≡ object_text (search_value options.now beside search.now)) }
+    ensures { IfOk result (λ line. string_bytes line ≡ object_text (search_value options.now beside.now search.now)) }
 {
     match &search.found {
         Some(found) => failure_line(alloc, options, search, found, beside),
@@ -71,10 +71,10 @@ fn failure_line(
     options: &HuntOptions<'_>,
     search: &Search,
     found: &Found,
-    beside: Beside,
+    beside: &Beside,
 ) -> Result<String, AllocError>
     ensures { IfOk result (λ line. string_bytes line ≡ object_text (hunt_value search.now.ended search.now.cut
-        (found_value options.now beside (Some found.now)) 3)) }
+        (found_value options.now beside.now (Some found.now)) 3)) }
 {
     let command = command_bytes(alloc, options, found.run, found.failure.deciding())?;
     // The words of a command line are UTF-8, and what stands between them is ASCII: this refuses nothing.

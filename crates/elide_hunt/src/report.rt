@@ -1,8 +1,8 @@
 //! What is printed of a search for a failing run, as lines.
 //!
 //! [`tell_lines`] writes one line where no run failed, and else the run and its check, how long its schedule was and
-//! is, the loop, and the command that replays it. All of it is known before the first line: what is told beside the run
-//! is made in `command` and handed in as [`Beside`]. As an object a search is `object`'s.
+//! is, the loop, the stores that are late, and the command that replays it. All of it is known before the first line:
+//! what is told beside the run is made in `command` and handed in as [`Beside`]. As an object a search is `object`'s.
 
 ghost use Rattle.std.specs.Prelude.{◌≡◌, ◌+◌, ◌≤◌, ◌++◌, OnOk};
 ghost use Rattle.arrayvec.specs.ArrayVec.{array_vec_len};
@@ -12,6 +12,7 @@ ghost use Rattle.elide_hunt.specs.Lines.{events_text, failure_text, front_text, 
 ghost use Rattle.elide_hunt.specs.Lines.{some_text};
 
 use crate::cycle::put_cycle;
+use crate::late::{Late, put_lates};
 use crate::replay::put_line;
 use arrayvec::ArrayVec;
 use elide_args::HuntOptions;
@@ -32,12 +33,14 @@ pub struct Counts {
 }
 
 /// What is told of a run that failed, beside the run.
-#[derive(Clone, Copy)]
+#[derive(Drop)]
 pub struct Beside {
     /// How long its schedule was before it was shortened.
     pub before: Counts,
     /// The loop that it comes to, where one is found.
     pub cycle: Option<Cycle>,
+    /// Its stores that are late past a load.
+    pub lates: Vec<Late>,
 }
 
 /// How long this one is.
@@ -58,10 +61,11 @@ pub type HuntLine = ArrayVec<u8, 320>;
 pub fn tell_lines<O: Out>(
     options: &HuntOptions<'_>,
     search: &Search,
-    beside: Beside,
+    beside: &Beside,
     out: &mut O,
 ) -> Result<(), Failed>
-    ensures { OnOk result (Wrote (O.device out.old) (O.device out.new) (search_text options.now beside search.now)) }
+    ensures { OnOk result
+        (Wrote (O.device out.old) (O.device out.new) (search_text options.now beside.now search.now)) }
 {
     match &search.found {
         Some(found) => tell_failure(options, found, beside, out),
@@ -93,14 +97,15 @@ fn push_none(line: &mut HuntLine, ended: u32, cut: u32)
 }
 
 // Tells the run that failed, what it failed, how long its schedule was and is, how much of it decides, the loop that it
-// comes to, and the command that replays what decides.
+// comes to, its stores that are late, and the command that replays what decides.
 fn tell_failure<O: Out>(
     options: &HuntOptions<'_>,
     found: &Found,
-    beside: Beside,
+    beside: &Beside,
     out: &mut O,
 ) -> Result<(), Failed>
-    ensures { OnOk result (Wrote (O.device out.old) (O.device out.new) (failure_text options.now beside found.now)) }
+    ensures { OnOk result
+        (Wrote (O.device out.old) (O.device out.new) (failure_text options.now beside.now found.now)) }
 {
     put_run(found.run, out)?;
     put_check(options, found.failure.check, out)?;
@@ -111,6 +116,7 @@ fn tell_failure<O: Out>(
         out,
     )?;
     put_cycle(beside.cycle, found.failure.picks.as_slice(), out)?;
+    put_lates(beside.lates.as_slice(), out)?;
     put_line(options, found.run, found.failure.deciding(), out)
 }
 

@@ -4,19 +4,23 @@
 //! the option that says it, by its place among `--check`, `--forbid`, `--stop`, `--expect-halt`. The exit status in it
 //! is the search's: a page that cannot be written is told later.
 
-ghost use Rattle.std.specs.Prelude.{◌≡◌, OnOk, codes};
+ghost use Rattle.std.specs.Prelude.{◌≡◌, OnOk, codes, if◌then◌else◌};
 ghost use Rattle.std.specs.Option.{option_copied};
-ghost use Rattle.elide_object.specs.Object.{SendsMember, text_or_null};
-ghost use Rattle.serde_json.specs.Events.{SendsValue};
-ghost use Rattle.elide_hunt.specs.Object.{check_value, counts_value, cycle_value, loop_value, option_value, runs_value};
-ghost use Rattle.elide_hunt.specs.Object.{search_status, told_cycle};
+ghost use Rattle.elide_object.specs.Object.{SendsMember, list_value, text_or_null};
+ghost use Rattle.elide_program.specs.Settings.{has_store_buffer};
+ghost use Rattle.serde_json.specs.Data.{member, no_members, string};
+ghost use Rattle.serde_json.specs.Events.{SendsMembers, SendsValue};
+ghost use Rattle.elide_hunt.specs.Object.{check_value, counts_value, cycle_value, late_value, loop_value, option_value};
+ghost use Rattle.elide_hunt.specs.Object.{runs_value, search_status, told_cycle};
 ghost use Rattle.tm_hunt.specs.Cycle.{loop_of};
-ghost use Rattle.elide_hunt.specs.Sent.{failure_of, object_value, sent_failure};
+ghost use Rattle.elide_hunt.specs.Sent.{failure_of, members_behind, object_value, sent_failure};
 
 use crate::cycle::MOST_TOLD;
+use crate::late::Late;
 use crate::report::{Beside, Counts, counts_of};
 use elide_args::HuntOptions;
 use elide_object::{send_number, send_schedule, send_text, send_text_or_null};
+use elide_program::has_store_buffer;
 use serde::{Described, Serialize, Serializer};
 use tm_hunt::{Cycle, Found};
 use tm_model::Pick;
@@ -40,7 +44,7 @@ pub struct FailureObject<'a, 'o> {
     /// The run, with its shortened schedule and how much of it decides.
     pub found: &'a Found,
     /// What is told beside it.
-    pub beside: Beside,
+    pub beside: &'a Beside,
     /// The command that replays what decides of it, or makes the run again.
     pub replay: &'a str,
 }
@@ -102,7 +106,7 @@ impl FailureObject<'_, '_> {
         ensures { OnOk result (SendsValue (sent_failure self.now) (S.written out.old) (S.written out.new)) }
     {
         let failure = &self.found.failure;
-        out.begin_map(Some(8))?;
+        out.begin_map(Some(self.members()))?;
         send_number("run", u64::from(self.found.run), out)?;
         send_check(self.options, failure.check, out)?;
         send_counts("before", self.beside.before, out)?;
@@ -110,9 +114,71 @@ impl FailureObject<'_, '_> {
         send_number("deciding", failure.front as u64, out)?;
         send_schedule("schedule", failure.deciding(), out)?;
         send_cycle(self.beside.cycle, failure.picks.as_slice(), out)?;
+        self.send_rest(out)
+    }
+
+    // How many members it has.
+    fn members(&self) -> usize
+        ensures { result ≡ (if has_store_buffer self.now.options.now.machine then 9 else 8) }
+    {
+        if has_store_buffer(&self.options.machine) {
+            9
+        } else {
+            8
+        }
+    }
+
+    // Sends the stores that are late, where stores may be pending, and the command.
+    fn send_rest<S: Serializer>(&self, out: &mut S) -> Result<(), S::Error>
+        ensures { OnOk result (SendsMembers (members_behind self.now) (S.written out.old) (S.written out.new)) }
+    {
+        if has_store_buffer(&self.options.machine) {
+            send_lates(self.beside.lates.as_slice(), out)?;
+            self.send_replay(out)
+        } else {
+            self.send_replay(out)
+        }
+    }
+
+    // Sends the command, which is the last member.
+    fn send_replay<S: Serializer>(&self, out: &mut S) -> Result<(), S::Error>
+        ensures { OnOk result (SendsMembers (member (codes "replay") (string self.now.replay.now) no_members)
+            (S.written out.old) (S.written out.new)) }
+    {
         send_text("replay", self.replay, out)?;
         out.end_map()
     }
+}
+
+// Sends the stores that are late.
+fn send_lates<S: Serializer>(lates: &[Late], out: &mut S) -> Result<(), S::Error>
+    ensures { OnOk result (SendsMember (codes "delayed") (list_value late_value lates.now) (S.written out.old)
+        (S.written out.new)) }
+{
+    out.key("delayed")?;
+    send_each(lates, out)
+}
+
+fn send_each<S: Serializer>(lates: &[Late], out: &mut S) -> Result<(), S::Error>
+    ensures { OnOk result (SendsValue (list_value late_value lates.now) (S.written out.old) (S.written out.new)) }
+{
+    out.begin_seq(Some(lates.len()))?;
+    for late in lates {
+        send_late(late, out)?;
+    }
+    out.end_seq()
+}
+
+fn send_late<S: Serializer>(late: &Late, out: &mut S) -> Result<(), S::Error>
+    ensures { OnOk result (SendsValue (late_value late.now) (S.written out.old) (S.written out.new)) }
+{
+    out.begin_map(Some(5))?;
+    send_number("core", u64::from(late.core), out)?;
+    send_number("stored", late.stored, out)?;
+    send_number("store", u64::from(late.store_eip), out)?;
+    send_number("loaded", late.loaded, out)?;
+    send_number("load", u64::from(late.load_eip), out)?;
+    out.end_map()
 }
 
 // Sends the option that says the check with this index.

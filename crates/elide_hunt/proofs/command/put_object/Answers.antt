@@ -12,5 +12,5 @@ returns-clause-told g c =
     λ m. told (g.O.Out.device m.out).contents (g.O.Out.device m.before.value).contents m.failures m.row.items in
     passed_on (g.O.Out.device c.args.out).contents (held c.new-page.result) (held c.tell_object.new.out)
     (g.O.Out.device c.in_ok-out.out).contents
-    (object_text (search_value c.args.options.now c.args.beside c.args.search.now)) c.new-page.ensures.kept
+    (object_text (search_value c.args.options.now c.args.beside.now c.args.search.now)) c.new-page.ensures.kept
     c.in_ok-tell_object.ensures.written c.in_ok-out.ensures.kept

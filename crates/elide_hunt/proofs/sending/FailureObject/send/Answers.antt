@@ -1,12 +1,25 @@
-use Rattle.std.proofs.Common.{codes, List, ap, ◌∙◌}
+use Rattle.std.proofs.Common.{◌≡◌, ℕ, suc, Bool, true, false, codes, List, Some, ap, ◌∙◌, refl, subst}
+use Rattle.std.specs.Prelude.{if◌then◌else◌}
 use Rattle.std.proofs.lemmas.Result.{on_ok_weaker}
 use Rattle.elide_object.specs.Object.{number_value, schedule_value}
 use Rattle.elide_object.proofs.Sending.{sent_equal}
+use Rattle.elide_program.specs.Settings.{has_store_buffer}
+use Rattle.serde.specs.Event.{Logs, map_begins}
+use Rattle.serde_json.specs.Data.{member, no_members, string}
+use Rattle.serde_json.specs.Events.{members_len}
 use Rattle.tm_model.specs.declared.outcome.Pick.{Pick}
 use Rattle.tm_hunt.specs.Deciding.{deciding}
 use Rattle.elide_hunt.specs.Lines.{counts_of}
-use Rattle.elide_hunt.specs.Object.{counts_value, cycle_value}
+use Rattle.elide_hunt.specs.Object.{counts_value, cycle_value, lates_then}
+use Rattle.elide_hunt.specs.declared.late.Late.{Late}
 use Rattle.elide_hunt.proofs.sending.FailureObject.send.Goals as goal
+
+-- how many members there are
+count : (may_pend : Bool) (lates : List Late) (replay : List ℕ) → (if may_pend then 9 else 8)
+    ≡ suc (suc (suc (suc (suc (suc (suc (members_len (lates_then may_pend lates
+    (member (codes "replay") (string replay) no_members)))))))))
+count true lates replay = refl
+count false lates replay = refl
 
 pub returns : goal.returns
 returns g c =
@@ -23,12 +36,15 @@ returns g c =
     let front = c.in_ok-send_number-2.ensures in
     let steps = sent_equal (codes "schedule") schedule_value _ (deciding found.failure) _ _ c.deciding.ensures
     c.in_ok-send_schedule.ensures in
-    let round = sent_equal (codes "cycle") (λ (l : List Pick). cycle_value l c.args.self.now.beside.cycle) _ picks _ _
+    let cycle = c.args.self.now.beside.now.cycle in
+    let round = sent_equal (codes "cycle") (λ (l : List Pick). cycle_value l cycle) _ picks _ _
     c.as_slice-2.ensures.value c.in_ok-send_cycle.ensures in
-    let replay = c.in_ok-send_text.ensures in
-    on_ok_weaker c.end_map.result (λ ended. (
+    let o = c.args.self.now in
+    on_ok_weaker c.send_rest.result (λ ended. (
       written c.begin_map.new.self,
-      c.in_ok-begin_map.ensures,
+      subst (λ (n : ℕ). Logs (written c.args.out.now) (written c.begin_map.new.self) (map_begins (Some n)))
+          (c.members.ensures ∙ count (has_store_buffer o.options.now.machine) o.beside.now.lates.items o.replay.now)
+          c.in_ok-begin_map.ensures,
       (
         run.0,
         written c.send_number.new.out,
@@ -59,17 +75,11 @@ returns g c =
                   written c.send_schedule.new.out,
                   steps.1,
                   steps.2,
-                  (
-                    round.0,
-                    written c.send_cycle.new.out,
-                    round.1,
-                    round.2,
-                    (replay.0, written c.send_text.new.out, replay.1, replay.2, ended),
-                  ),
+                  (round.0, written c.send_cycle.new.out, round.1, round.2, ended),
                 ),
               ),
             ),
           ),
         ),
       ),
-    )) c.end_map.ensures
+    )) c.send_rest.ensures
