@@ -1,11 +1,11 @@
 -- No value of the object of a search is a float.
-use Rattle.std.proofs.Common.{◌≡◌, ℕ, ◌-◌, Bool, Bor, false, List, ◌||◌, Option, Some, None, codes, length, refl}
+use Rattle.std.proofs.Common.{◌≡◌, ℕ, ◌-◌, Bool, Bor, false, true, List, ◌||◌, Option, Some, None, codes, length, refl}
 use Rattle.std.specs.Prelude.{slice_get}
 use Rattle.elide_args.specs.declared.subcommand.OutcomesOptions.{OutcomesOptions}
 use Rattle.tm_model.specs.declared.outcome.Pick.{Pick}
 use Rattle.elide_object.proofs.Sending.{no_float_both, no_float_items}
 use Rattle.elide_object.specs.Object.{items_of, number_value, word_value}
-use Rattle.serde_json.specs.Data.{Data, null, string}
+use Rattle.serde_json.specs.Data.{Data, null, object, string}
 use Rattle.serde_json.specs.Written.{has_float, items_have_float}
 use Rattle.tm_outcomes.specs.declared.cycle.Cycle.{Cycle}
 use Rattle.tm_outcomes.specs.declared.searching.Search.{Search}
@@ -13,8 +13,8 @@ use Rattle.tm_outcomes.specs.declared.stops.ReachedStop.{ReachedStop}
 use Rattle.tm_outcomes.specs.declared.stuck.Stuck.{Stuck}
 use Rattle.tm_outcomes.specs.declared.table.FoundOutcome.{FoundOutcome}
 use Rattle.tm_outcomes.specs.declared.violations.Violation.{Violation}
-use Rattle.elide_outcomes.specs.Object.{check_value, cycle_value, forbid_value, option_value, outcome_value}
-use Rattle.elide_outcomes.specs.Object.{search_value, stop_value}
+use Rattle.elide_outcomes.specs.Object.{check_value, cycle_value, forbid_value, last_members, option_value}
+use Rattle.elide_outcomes.specs.Object.{outcome_value, search_object, stop_value}
 use Rattle.elide_outcomes.specs.Object.{stuck_value, violation_value}
 
 no_float_outcome : (told : FoundOutcome) → has_float (outcome_value told) ≡ false
@@ -68,22 +68,27 @@ no_float_violation options told =
     no_float_check options (told.check - length options.checks.items) (slice_get options.checks.items told.check)
     told.schedule.items
 
-pub no_float_search : (options : OutcomesOptions) (show : List (List ℕ)) (status : ℕ) (search : Search) →
-    has_float (search_value options show status search) ≡ false
-unfolding search_value
-no_float_search options show status search =
+no_float_last : (stores waited : Bool) (status : ℕ) → has_float (object (last_members stores waited status)) ≡ false
+no_float_last true waited status = refl
+no_float_last false waited status = refl
+
+pub no_float_search : (options : OutcomesOptions) (show : List (List ℕ)) (status : ℕ) (stores : Bool) (search : Search)
+    → has_float (search_object options show status stores search) ≡ false
+unfolding search_object
+no_float_search options show status stores search =
+    let last : Bool = has_float (object (last_members stores search.waited status)) in
     let outcomes = items_have_float (items_of outcome_value search.outcomes.items) in
     let violations = items_have_float (items_of (violation_value options) search.violations.items) in
     let stops = items_have_float (items_of stop_value search.stops.items) in
     let stuck = has_float (stuck_value search.stuck) in
     let cycle = has_float (cycle_value search.cycle) in
     no_float_both (items_have_float (items_of string show))
-    (outcomes || (violations || (stops || (stuck || (cycle || false)))))
+    (outcomes || (violations || (stops || (stuck || (cycle || last)))))
     (no_float_items string (λ text. refl) show)
-    (no_float_both outcomes (violations || (stops || (stuck || (cycle || false))))
+    (no_float_both outcomes (violations || (stops || (stuck || (cycle || last))))
     (no_float_items outcome_value no_float_outcome search.outcomes.items)
-    (no_float_both violations (stops || (stuck || (cycle || false)))
+    (no_float_both violations (stops || (stuck || (cycle || last)))
     (no_float_items (violation_value options) (no_float_violation options) search.violations.items)
-    (no_float_both stops (stuck || (cycle || false)) (no_float_items stop_value no_float_stop search.stops.items)
-    (no_float_both stuck (cycle || false) (no_float_stuck search.stuck)
-    (no_float_both cycle false (no_float_cycle search.cycle) refl)))))
+    (no_float_both stops (stuck || (cycle || last)) (no_float_items stop_value no_float_stop search.stops.items)
+    (no_float_both stuck (cycle || last) (no_float_stuck search.stuck)
+    (no_float_both cycle last (no_float_cycle search.cycle) (no_float_last stores search.waited status))))))

@@ -1,5 +1,5 @@
 -- The lines that `elide outcomes` prints (docs/FORMATS.md, "Outcomes"), and their order.
-use Rattle.std.specs.Prelude.{ℕ, Bool, true, false, List, [], ◌∷◌, ◌++◌, codes, length, Option, Some, None}
+use Rattle.std.specs.Prelude.{ℕ, Bool, true, false, not, ◌&&◌, List, [], ◌∷◌, ◌++◌, codes, length, Option, Some, None}
 use Rattle.std.specs.Prelude.{if◌then◌else◌}
 use Rattle.std.specs.Prelude.{IsPermutation, IsSorted}
 use Rattle.std.specs.Cmp.Lexicographic.{slice_cmp}
@@ -111,7 +111,7 @@ cycle_text (Some cycle) = cycle_line cycle
 abbrev pub cycle_lines : Bool → Option Cycle → List ℕ
 cycle_lines asks_stuck cycle = if asks_stuck then cycle_text cycle else []
 
--- ---- the last line
+-- ---- how many there are
 
 abbrev pub states_text : ℕ → List ℕ
 states_text states = decimal states ++ codes " states"
@@ -131,10 +131,21 @@ wayless_text (Some stuck) = codes ", " ++ decimal stuck.states ++ codes " of the
 abbrev pub cut_text : Bool → List ℕ
 cut_text is_cut = if is_cut then codes ": cut at the limit, there may be more" else []
 
--- the last line
+-- the line of the counts
 abbrev pub count_line : Bool → ℕ → ℕ → Option Stuck → Bool → List ℕ
 count_line shows outcomes states stuck is_cut =
     counts_text shows outcomes states ++ wayless_text stuck ++ cut_text is_cut ++ line_end
+
+-- ---- room for stores
+
+-- behind the counts, where the search did not end at its limit, and somewhere a step waited for room
+abbrev pub room_line : Bool → Bool → List ℕ
+room_line is_cut waited =
+    if waited && not is_cut
+    then codes "a store waited for room: a larger store buffer may show more" ++ line_end
+    else []
+
+-- ---- all of them
 
 -- the lines of a search whose outcomes stand in this order, of which these words say what is shown, by these labels
 abbrev pub search_text : OutcomesOptions → List (List ℕ) → List Symbol → Search → List ℕ
@@ -144,6 +155,7 @@ search_text options words labels search =
     ++ violation_lines options search.violations.items ++ stop_lines search.stops.items
     ++ stuck_lines options.asks_stuck search.stuck ++ cycle_lines options.asks_stuck search.cycle
     ++ count_line (has_words words) (length search.outcomes.items) search.states search.stuck search.is_cut
+    ++ room_line search.is_cut search.waited
 
 -- those that were found, each once, in the order of their values: the first item decides, where it is alike the next
 pub record AreInOrder (found told : List FoundOutcome) : Type 0 where

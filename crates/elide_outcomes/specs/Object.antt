@@ -1,11 +1,12 @@
 -- The object that `elide outcomes --json` prints (docs/JSON.md, "outcomes").
-use Rattle.std.specs.Prelude.{ℕ, ◌-◌, not, List, codes, length, slice_get, Option, Some, None}
+use Rattle.std.specs.Prelude.{ℕ, ◌-◌, Bool, true, false, not, List, codes, length, slice_get, Option, Some, None}
 use Rattle.std.specs.Borrow.{Bor}
 use Rattle.std.specs.Io.KnownBytes.{Appends}
 use Rattle.elide_args.specs.declared.subcommand.OutcomesOptions.{OutcomesOptions}
+use Rattle.elide_program.specs.Settings.{has_store_buffer}
 use Rattle.elide_object.specs.Object.{list_value, number_value, object_text, schedule_value, text_list}
 use Rattle.tm_hist.specs.Lines.{stop_word}
-use Rattle.serde_json.specs.Data.{Data, boolean, member, no_members, null, object, string}
+use Rattle.serde_json.specs.Data.{Data, Members, boolean, member, no_members, null, object, string}
 use Rattle.tm_outcomes.specs.declared.cycle.Cycle.{Cycle}
 use Rattle.tm_outcomes.specs.declared.searching.Search.{Search}
 use Rattle.tm_outcomes.specs.declared.stops.ReachedStop.{ReachedStop}
@@ -65,10 +66,10 @@ violation_value options told =
     check_value options (told.check - length options.checks.items) (slice_get options.checks.items told.check)
     told.schedule.items
 
--- a search of what these words say, with its outcomes in this order, and its exit status
-unfoldable pub search_value : OutcomesOptions → List (List ℕ) → ℕ → Search → Data
-search_value options show status search =
-    object (member (codes "format") (number_value 1)
+-- a search of what these words say, with its outcomes in this order, but for the last members
+abbrev pub front_members : OutcomesOptions → List (List ℕ) → Search → Members → Members
+front_members options show search rest =
+    member (codes "format") (number_value 1)
     (member (codes "command") (string (codes "outcomes"))
     (member (codes "show") (text_list show)
     (member (codes "outcomes") (list_value outcome_value search.outcomes.items)
@@ -77,8 +78,22 @@ search_value options show status search =
     (member (codes "stuck") (stuck_value search.stuck)
     (member (codes "cycle") (cycle_value search.cycle)
     (member (codes "states") (number_value search.states)
-    (member (codes "whole") (boolean (not search.is_cut))
-    (member (codes "status") (number_value status) no_members)))))))))))
+    (member (codes "whole") (boolean (not search.is_cut)) rest)))))))))
+
+-- where stores may be pending, whether somewhere a step waited for room; and the exit status
+abbrev pub last_members : Bool → Bool → ℕ → Members
+last_members true waited status =
+    member (codes "waited") (boolean waited) (member (codes "status") (number_value status) no_members)
+last_members false waited status = member (codes "status") (number_value status) no_members
+
+-- all of it, where stores may be pending, or none may
+unfoldable pub search_object : OutcomesOptions → List (List ℕ) → ℕ → Bool → Search → Data
+search_object options show status stores search =
+    object (front_members options show search (last_members stores search.waited status))
+
+abbrev pub search_value : OutcomesOptions → List (List ℕ) → ℕ → Search → Data
+search_value options show status search =
+    search_object options show status (has_store_buffer options.machine) search
 
 -- it was written on a line of its own
 abbrev pub IsObjectWritten : OutcomesOptions → List (List ℕ) → Search → Option (List ℕ) → Option (List ℕ) → Type 0

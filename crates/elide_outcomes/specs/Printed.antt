@@ -76,6 +76,7 @@ pub record IsSorted (trial : Trial) (most : ℕ) (found : Search) : Type 0 where
   pub cycle : found.cycle ≡ search.cycle
   pub stops : found.stops ≡ search.stops
   pub violations : found.violations ≡ search.violations
+  pub waited : found.waited ≡ search.waited
 
 -- with labels that the file has
 pub record IsFound (file : ProgramFile) (trial : Trial) (most : ℕ) (found : Found) : Type 0 where

@@ -13,7 +13,7 @@ use Rattle.elide_program.specs.Faults.{unread}
 use Rattle.elide_program.specs.Files.{Gives, Tells, most_bytes}
 use Rattle.elide_program.specs.ProgramFile.{IsFile}
 use Rattle.elide_program.specs.Refusals.{IsMisread, IsNoProgram}
-use Rattle.elide_program.specs.Settings.{AreSettings, has_store_buffer, number_said}
+use Rattle.elide_program.specs.Settings.{AreSettings, number_said}
 use Rattle.elide_program.specs.declared.fault.ProgramRefusal.{ProgramRefusal}
 use Rattle.elide_program.specs.declared.file.ProgramFile.{ProgramFile}
 use Rattle.elide_program.specs.declared.settings.Settings.{Settings}
@@ -66,12 +66,6 @@ pub record IsNoPage (page : List (Bor (List ℕ))) (why : Refusal) : Type 0 wher
   pub path : Bor (List ℕ)
   pub given : page ≡ number ∷ path ∷ []
   pub none : IfSome (number_said (Some number.now)) (λ value. value ≡ 0)
-  pub named : IsMisuse (codes "--page") why
-
--- a page is asked for where stores may be pending, which it does not show
-pub record IsPageOfStores (options : OutcomesOptions) (why : Refusal) : Type 0 where
-  pub given : length options.page.items ≡ 2
-  pub stores : has_store_buffer options.machine ≡ true
   pub named : IsMisuse (codes "--page") why
 
 -- it is what the option says: a number, which counts outcomes from 1, and a path
@@ -175,7 +169,6 @@ pub data IsRefused (content : List ℕ → Option (List ℕ)) (are_one : List �
   no_page : IsNoPage options.page.items why → IsRefused content are_one options why
   over_program : IsOverProgram are_one options.page.items options.machine.file.now why
       → IsRefused content are_one options why
-  of_stores : IsPageOfStores options why → IsRefused content are_one options why
   not_read : (cause : ProgramRefusal) → Tells unread (content options.machine.file.now) cause → why ≡ refusal_of cause
       → IsRefused content are_one options why
   not_found : (text : List ℕ) (settings : Settings) (under : Under) (reasons : List Stop)

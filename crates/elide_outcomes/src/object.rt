@@ -4,14 +4,14 @@
 //! already; the exit status in it is the search's, made here, and not that of a page. Labels are not told: values are
 //! numbers.
 
-ghost use Rattle.std.specs.Prelude.{◌≡◌, IfErr, IfOk, OnOk, Some, codes, string_bytes};
+ghost use Rattle.std.specs.Prelude.{◌≡◌, IfErr, IfOk, OnOk, Some, codes, false, string_bytes, true};
 ghost use Rattle.elide_setup.specs.Refused.{IsUntold};
 ghost use Rattle.elide_args.specs.Asked.{texts_of};
 ghost use Rattle.elide_object.specs.Object.{SendsMember, list_value, object_text};
 ghost use Rattle.serde_json.specs.Events.{SendsValue};
-ghost use Rattle.elide_outcomes.specs.Object.{IsObjectWritten, cycle_value, outcome_value, search_value, stop_value};
-ghost use Rattle.elide_outcomes.specs.Object.{stuck_value};
-ghost use Rattle.elide_outcomes.specs.Sent.{object_value};
+ghost use Rattle.elide_outcomes.specs.Object.{IsObjectWritten, cycle_value, front_members, outcome_value};
+ghost use Rattle.elide_outcomes.specs.Object.{search_object, search_value, stop_value, stuck_value};
+ghost use Rattle.elide_outcomes.specs.Sent.{SendsFront, object_value};
 
 use crate::search_object::SearchObject;
 use crate::sending::send_violations;
@@ -20,6 +20,7 @@ use elide_args::OutcomesOptions;
 use elide_object::{
     object_line, send_flag, send_number, send_numbers, send_schedule, send_text, send_texts,
 };
+use elide_program::has_store_buffer;
 use elide_setup::{Fault, Refusal};
 use serde::{Described, Serialize, Serializer};
 use std::alloc::{AllocError, Global};
@@ -66,6 +67,7 @@ fn line_of(
             options,
             show,
             status,
+            has_stores: has_store_buffer(&options.machine),
             search,
         },
     )
@@ -77,21 +79,53 @@ impl Described for SearchObject<'_, '_> {
 
 impl Serialize for SearchObject<'_, '_> {
     fn serialize<S: Serializer>(&self, out: &mut S) -> Result<(), S::Error> {
-        let search = self.search;
-        out.begin_map(Some(11))?;
-        send_number("format", 1, out)?;
-        send_text("command", "outcomes", out)?;
-        send_texts("show", self.show, out)?;
-        send_outcomes(search.outcomes.as_slice(), out)?;
-        send_violations(self.options, search.violations.as_slice(), out)?;
-        send_stops(search.stops.as_slice(), out)?;
-        send_stuck(&search.stuck, out)?;
-        send_cycle(&search.cycle, out)?;
-        send_number("states", u64::from(search.states), out)?;
-        send_flag("whole", !search.is_cut, out)?;
-        send_number("status", self.status, out)?;
-        out.end_map()
+        if self.has_stores {
+            send_with_room(self, out)
+        } else {
+            send_parts(self, out)
+        }
     }
+}
+
+// Where no store may be pending.
+fn send_parts<S: Serializer>(object: &SearchObject<'_, '_>, out: &mut S) -> Result<(), S::Error>
+    ensures { OnOk result (SendsValue (search_object object.now.options.now (texts_of object.now.show.now)
+        object.now.status false object.now.search.now) (S.written out.old) (S.written out.new)) }
+{
+    out.begin_map(Some(11))?;
+    send_front(object, out)?;
+    send_number("status", object.status, out)?;
+    out.end_map()
+}
+
+// Where some may, with whether a step waited for room among them.
+fn send_with_room<S: Serializer>(object: &SearchObject<'_, '_>, out: &mut S) -> Result<(), S::Error>
+    ensures { OnOk result (SendsValue (search_object object.now.options.now (texts_of object.now.show.now)
+        object.now.status true object.now.search.now) (S.written out.old) (S.written out.new)) }
+{
+    out.begin_map(Some(12))?;
+    send_front(object, out)?;
+    send_flag("waited", object.search.waited, out)?;
+    send_number("status", object.status, out)?;
+    out.end_map()
+}
+
+// What is told of each search.
+fn send_front<S: Serializer>(object: &SearchObject<'_, '_>, out: &mut S) -> Result<(), S::Error>
+    ensures { OnOk result (SendsFront (front_members object.now.options.now (texts_of object.now.show.now)
+        object.now.search.now) (S.written out.old) (S.written out.new)) }
+{
+    let search = object.search;
+    send_number("format", 1, out)?;
+    send_text("command", "outcomes", out)?;
+    send_texts("show", object.show, out)?;
+    send_outcomes(search.outcomes.as_slice(), out)?;
+    send_violations(object.options, search.violations.as_slice(), out)?;
+    send_stops(search.stops.as_slice(), out)?;
+    send_stuck(&search.stuck, out)?;
+    send_cycle(&search.cycle, out)?;
+    send_number("states", u64::from(search.states), out)?;
+    send_flag("whole", !search.is_cut, out)
 }
 
 fn send_outcomes<S: Serializer>(outcomes: &[FoundOutcome], out: &mut S) -> Result<(), S::Error>

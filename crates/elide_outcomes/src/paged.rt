@@ -5,10 +5,10 @@
 //! refuses a number above theirs. The page itself is made by what is handed in ([`Pages`]).
 
 ghost use Rattle.std.specs.Prelude.{◌≡◌, ◌⊎◌, ℕ, IfErr, IfOk, List};
-ghost use Rattle.elide_outcomes.specs.Refused.{IsNoPage, IsNotShown, IsOverProgram, IsPageOf, IsPageOfStores};
+ghost use Rattle.elide_outcomes.specs.Refused.{IsNoPage, IsNotShown, IsOverProgram, IsPageOf};
 
 use elide_args::{MachineOptions, OutcomesOptions};
-use elide_program::{Paths, has_store_buffer, number_of};
+use elide_program::{Paths, number_of};
 use elide_setup::{Paged, Pages, Refusal, page_path};
 use std::alloc::Global;
 use tm_outcomes::FoundOutcome;
@@ -39,8 +39,8 @@ pub struct Searched<'a> {
 }
 
 impl<'a> PageAsked<'a> {
-    /// What the options ask for. `--page` is misused where stores may be pending, where its number is none from 1 on,
-    /// or its path that of the program.
+    /// What the options ask for. `--page` is misused where its number is none from 1 on, or its path that of the
+    /// program.
     pub fn read<P: Paths>(
         options: &OutcomesOptions<'a>,
         paths: &mut P,
@@ -48,16 +48,11 @@ impl<'a> PageAsked<'a> {
         ensures kept { (other : List ℕ) → P.content paths.new other ≡ P.content paths.old other }
         ensures ok { IfOk result (IsPageOf options.now.page.items) }
         ensures err { IfErr result (λ why. IsNoPage options.now.page.items why
-            ⊎ (IsOverProgram (P.are_one paths.old) options.now.page.items options.now.machine.file.now why
-            ⊎ IsPageOfStores options.now why)) }
+            ⊎ IsOverProgram (P.are_one paths.old) options.now.page.items options.now.machine.file.now why) }
     {
         let [number, path] = options.page.as_slice() else {
             return Ok(PageAsked::Nothing);
         };
-        // A page shows a store in memory at the step that makes it.
-        if has_store_buffer(&options.machine) {
-            return Err(Refusal::Usage("--page"));
-        }
         let Some(path) = page_path(Some(path), options.machine.file, None, paths)? else {
             return Ok(PageAsked::Nothing);
         };

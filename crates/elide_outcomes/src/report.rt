@@ -1,8 +1,9 @@
 //! What is printed of a search over all schedules, as lines; `object` has the same as JSON.
 //!
 //! [`sort`] comes first, and then [`tell`]: the words of `--show`, the outcomes, the checks that are violated, the
-//! stops, states without a way to an end, a cycle, and last the counts, which say whether the search was cut. All but
-//! the counts are left out where they are not asked for or not there.
+//! stops, states without a way to an end, a cycle, and the counts, which say whether the search was cut. All but
+//! the counts are left out where they are not asked for or not there. Where it was not cut, and a step waited for room
+//! among the stores that are pending, a last line says so.
 
 ghost use Rattle.std.specs.Prelude.{◌≡◌, ◌++◌, OnOk, codes, length, true};
 ghost use Rattle.std.specs.List.{flat_map};
@@ -14,8 +15,8 @@ ghost use Rattle.elide_args.specs.Asked.{texts_of};
 ghost use Rattle.elide_outcomes.specs.Lines.{AreInOrder, count_line, counts_text, cut_text, cycle_line, cycle_lines};
 ghost use Rattle.elide_outcomes.specs.Lines.{cycle_text};
 ghost use Rattle.elide_outcomes.specs.Lines.{ends_text, has_words};
-ghost use Rattle.elide_outcomes.specs.Lines.{item_text, outcome_line, outcome_lines, search_text, shown_lines};
-ghost use Rattle.elide_outcomes.specs.Lines.{states_text, step_text, stop_line};
+ghost use Rattle.elide_outcomes.specs.Lines.{item_text, outcome_line, outcome_lines, room_line, search_text};
+ghost use Rattle.elide_outcomes.specs.Lines.{shown_lines, states_text, step_text, stop_line};
 ghost use Rattle.elide_outcomes.specs.Lines.{stop_lines, stuck_line, stuck_lines, stuck_text, wayless_text};
 
 use crate::names::label_at;
@@ -59,6 +60,7 @@ pub fn tell<O: Out>(
     tell_stuck(options.asks_stuck, &search.stuck, out)?;
     tell_cycle(options.asks_stuck, &search.cycle, out)?;
     tell_counts(shows, search, out)?;
+    out.put(room_words(search.is_cut, search.waited))?;
     Ok(())
 }
 
@@ -273,7 +275,7 @@ fn tell_cycle_line<O: Out>(cycle: &Cycle, out: &mut O) -> Result<(), WriteFault>
     Ok(())
 }
 
-// The last line. Outcomes are counted where something is shown of them.
+// The line of the counts. Outcomes are counted where something is shown of them.
 fn tell_counts<O: Out>(shows: bool, search: &Search, out: &mut O) -> Result<(), WriteFault>
     ensures { OnOk result (Wrote (O.device out.old) (O.device out.new) (count_line shows
         (length search.now.outcomes.items) search.now.states search.now.stuck search.now.is_cut)) }
@@ -351,6 +353,17 @@ fn tell_wayless_count<O: Out>(states: u32, out: &mut O) -> Result<(), WriteFault
     out.put(digits.format(states).as_bytes())?;
     out.put(b" of them without a way to an end")?;
     Ok(())
+}
+
+// The line behind the counts, of a search that was not cut, where a step waited for room.
+fn room_words(is_cut: bool, waited: bool) -> &'static [u8]
+    ensures { result.now ≡ room_line is_cut waited }
+{
+    if waited && !is_cut {
+        b"a store waited for room: a larger store buffer may show more\n"
+    } else {
+        b""
+    }
 }
 
 // What is said behind the counts where the search was cut.

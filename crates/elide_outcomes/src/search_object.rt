@@ -12,6 +12,8 @@ pub struct SearchObject<'a, 's> {
     pub show: &'a [&'s str],
     /// The exit status.
     pub status: u64,
+    /// Whether stores may be pending.
+    pub has_stores: bool,
     /// The search.
     pub search: &'a Search,
 }

@@ -14,4 +14,5 @@ returns g c = record {
   cycle = refl;
   stops = refl;
   violations = refl;
+  waited = refl;
 }
