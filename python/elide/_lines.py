@@ -27,6 +27,7 @@ _WHY = re.compile(r"core (\d+): (.+)")
 _PENDING = re.compile(r"pending (\d+) (?:(-)|([0-9a-f]{8}) ([0-9a-f]{8}|[0-9a-f]{2}))")
 _HIT = re.compile(
     r" line ([0-9a-f]+): (read|written|drained) at step (\d+) by core (\d+)(?: at ([0-9a-f]{8}))?"
+    r"(?:, stored at step (\d+))?"
 )
 _BEGUN = re.compile(r"; begun at step (\d+)")
 _DUMP = re.compile(r"([0-9a-f]{8}) ((?:[0-9a-f]{2})+)")
@@ -105,6 +106,7 @@ def reason(row: Sequence[str]) -> Optional[Reason]:
         int(hit[4]) if hit else None,
         int(hit[5], 16) if hit and hit[5] else None,
         int(begun[1]) if begun else None,
+        int(hit[6]) if hit and hit[6] else None,
     )
 
 

@@ -117,8 +117,8 @@ class Reason:
     `text` is the whole reason and `cause` its first words, as `conflict`, `capacity` or `xabort`.
     Where another core's step doomed the transaction: `line` is the lowest line that was hit,
     `access` is `read` or `written`, by step `step` (from 1) of core `by`, whose instruction is at
-    `address`; or `drained`, where a store that was pending reached memory, and no address.
-    `begun` is the step of the outermost XBEGIN.
+    `address`; or `drained`, where a store that was pending reached memory: then the instruction at
+    `address` made the store, at step `stored`. `begun` is the step of the outermost XBEGIN.
     """
 
     core: int
@@ -130,6 +130,7 @@ class Reason:
     by: Optional[int] = None
     address: Optional[int] = None
     begun: Optional[int] = None
+    stored: Optional[int] = None
 
     def __str__(self) -> str:
         return self.text

@@ -100,11 +100,15 @@ class Lines(unittest.TestCase):
             reason = _lines.reason([f"core 1: {text}"])
             self.assertEqual(reason, elide.Reason(1, text, cause, begun=begun))
         self.assertIsNone(_lines.reason(["core 1: its next step is no abort"]))
-        told = "core 0: conflict line 40: drained at step 4 by core 1; begun at step 1"
+        told = (
+            "core 0: conflict line 40: drained at step 4 by core 1 at 00000116, stored at step 3"
+            "; begun at step 1"
+        )
         drained = _lines.reason([told])
         assert drained is not None
         self.assertEqual((drained.access, drained.step, drained.by), ("drained", 4, 1))
-        self.assertEqual((drained.line, drained.address, drained.begun), (0x40, None, 1))
+        self.assertEqual((drained.line, drained.address, drained.begun), (0x40, 0x116, 1))
+        self.assertEqual((drained.cause, drained.stored), ("conflict", 3))
 
     def test_other_forms(self) -> None:
         for line in ("", "0", "0 aborted", "0 aborted 6", "a plain", "0 plain ", "0 stopped"):
